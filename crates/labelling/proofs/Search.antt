@@ -1,0 +1,95 @@
+-- Searches among the numbers below a bound, by a test that computes.
+-- Assumes nothing.
+use mathlib.Core.Path.{_≡_}
+use mathlib.Core.Bool.{Bool, true, false, not, _&&_}
+use mathlib.Core.Option.{Option, none, some}
+use mathlib.Core.Logic.{_⊎_, inl, inr}
+use Prim.Native.Nat.{ℕ, zero, suc, _≤_, _<_}
+use native.Mathlib.Decide.{ℕ-discrete}
+use native.Mathlib.Nat.{not-suc-le-zero}
+use native.Mathlib.Omega.{arith}
+use lib.Dec.{T}
+
+-- Of each number below n the test says yes.
+unfoldable pub everyBelow : ℕ → (ℕ → Bool) → Bool
+everyBelow zero f = true
+everyBelow (suc n) f = f n && everyBelow n f
+
+pub and-left : (a b : Bool) → T (a && b) → T a
+and-left true b t = tt
+and-left false b t = t
+
+pub and-right : (a b : Bool) → T (a && b) → T b
+and-right true b t = t
+and-right false b t = absurd t
+
+pub and-both : (a b : Bool) → T a → T b → T (a && b)
+and-both true b t u = u
+and-both false b t u = t
+
+-- A statement of each number below n, and of n, is one of each number below n + 1.
+pub below-suc : {P : ℕ → Type 0} {n : ℕ} → ((k : ℕ) → k < n → P k) → P n → (k : ℕ) → k < suc n → P k
+below-suc {P} {n} h p k l = pick (ℕ-discrete k n)
+  where
+    pick : Dec (k ≡ n) → P k
+    pick (yes e) = rw e p
+    pick (no d) = h k (omega arith)
+
+pub every-at : (n : ℕ) (f : ℕ → Bool) → T (everyBelow n f) → (k : ℕ) → k < n → T (f k)
+unfolding everyBelow
+every-at zero f t k l = absurd (not-suc-le-zero l)
+every-at (suc n) f t k l =
+    below-suc {P = λ j. T (f j)} (every-at n f (and-right (f n) (everyBelow n f) t)) (and-left (f n) (everyBelow n f) t) k l
+
+pub every-all : (n : ℕ) (f : ℕ → Bool) → ((k : ℕ) → k < n → T (f k)) → T (everyBelow n f)
+unfolding everyBelow
+every-all zero f h = tt
+every-all (suc n) f h = and-both (f n) (everyBelow n f) (h n (omega arith)) (every-all n f (λ k l. h k (omega arith)))
+
+-- A number below n of which the test says no, if there is one.
+unfoldable pub failing : ℕ → (ℕ → Bool) → Option ℕ
+failing zero f = none
+failing (suc n) f = elim (f n) [ true ↦ failing n f | false ↦ some n ]
+
+-- What `failing` tells.
+abbrev pub Failing : ℕ → (ℕ → Bool) → Option ℕ → Type 0
+Failing n f none = (k : ℕ) → k < n → T (f k)
+Failing n f (some k) = (k < n) × (T (f k) → ⊥)
+
+failing-step : (n : ℕ) (f : ℕ → Bool) (o : Option ℕ) → Failing n f o → T (f n) → Failing (suc n) f o
+failing-step n f none h t = below-suc {P = λ k. T (f k)} h t
+failing-step n f (some k) h t = (omega (arith, h .0), h .1)
+
+pub failing-tells : (n : ℕ) (f : ℕ → Bool) → Failing n f (failing n f)
+unfolding failing
+failing-tells zero f = λ k l. absurd (not-suc-le-zero l)
+failing-tells (suc n) f = go (failing-tells n f) (f n) (λ t. t) (λ t. t)
+  where
+    go : Failing n f (failing n f) → (b : Bool) → (T (f n) → T b) → (T b → T (f n)) → Failing (suc n) f (elim b [ true ↦ failing n f | false ↦ some n ])
+    go below true from to = failing-step n f (failing n f) below (to tt)
+    go below false from to = (omega arith, from)
+
+-- v is the first number of which the test says yes.
+pub record FirstYes (f : ℕ → Bool) (v : ℕ) : Type 0 where
+  pub here : T (f v)
+  pub before : (w : ℕ) → w < v → T (f w) → ⊥
+
+found-below : (f : ℕ → Bool) (n : ℕ) → ((v : ℕ) × (v < n) × FirstYes f v) ⊎ ((w : ℕ) → w < n → T (f w) → ⊥)
+found-below f zero = inr (λ w l. absurd (not-suc-le-zero l))
+found-below f (suc n) = go (found-below f n) (f n) (λ t. t) (λ t. t)
+  where
+    Answer : Type 0
+    Answer = ((v : ℕ) × (v < suc n) × FirstYes f v) ⊎ ((w : ℕ) → w < suc n → T (f w) → ⊥)
+
+    go : ((v : ℕ) × (v < n) × FirstYes f v) ⊎ ((w : ℕ) → w < n → T (f w) → ⊥) → (b : Bool) → (T (f n) → T b) → (T b → T (f n)) → Answer
+    go (inl (v, l, y)) b from to = inl (v, omega arith, y)
+    go (inr none-below) true from to = inl (n, omega arith, record { here = to tt; before = none-below })
+    go (inr none-below) false from to = inr (below-suc {P = λ k. T (f k) → ⊥} none-below from)
+
+-- Where the test says yes of m, there is a first number of which it does.
+pub first-yes : (f : ℕ → Bool) (m : ℕ) → T (f m) → (v : ℕ) × (v ≤ m) × FirstYes f v
+first-yes f m t = go (found-below f (suc m))
+  where
+    go : ((v : ℕ) × (v < suc m) × FirstYes f v) ⊎ ((w : ℕ) → w < suc m → T (f w) → ⊥) → (v : ℕ) × (v ≤ m) × FirstYes f v
+    go (inl (v, l, y)) = (v, omega arith, y)
+    go (inr none-below) = absurd (none-below m (omega arith) t)
