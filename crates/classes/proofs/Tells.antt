@@ -1,11 +1,12 @@
--- What a bool answer tells: a statement tells one bool, `false` tells of a statement that is refuted, and a test of two numbers tells of a
--- statement that holds exactly if they are equal. They rest on the meaning of `==` on numbers. Assumes nothing.
+-- What a bool answer tells: a statement tells one bool, `false` tells of a statement that is refuted and `true` of one that holds, and a test
+-- of two numbers tells of a statement that holds exactly if the numbers are so. They rest on the meaning of the tests on numbers. Assumes nothing.
 use mathlib.Core.Path.{_≡_, refl}
-use mathlib.Core.Bool.{Bool, true, false}
-use Prim.Native.Nat.{ℕ}
+use mathlib.Core.Bool.{Bool, true, false, not}
+use Prim.Native.Nat.{ℕ, _≤_, _<_}
 use native.Mathlib.Omega.{arith}
-use lib.Dec.{eqb}
-use borrow.Author.Tests.{eqb-true, eqb-false}
+use native.Mathlib.Nat.{not-le-of-lt}
+use lib.Dec.{eqb, ltb, leb}
+use borrow.Author.Tests.{eqb-true, eqb-false, ltb-true, ltb-false, leb-true, leb-false, not-true, not-false}
 use Rattle.classes.specs.Tells.{Tells}
 
 -- Two answers that tell of one statement are equal.
@@ -21,3 +22,19 @@ tells-no n = record { holds = λ e. let z : _≡_ {A = ℕ} 0 1 = cc in absurd (
 
 pub tells-eqb : {P : Type 0} (a b : ℕ) → (a ≡ b → P) → (P → a ≡ b) → Tells P (eqb a b)
 tells-eqb a b f g = record { holds = λ e. f (eqb-true a b e); fails = λ e p. eqb-false a b e (g p) }
+
+pub tells-yes : {P : Type 0} → P → Tells P true
+tells-yes p = record { holds = λ e. p; fails = λ e. let z : _≡_ {A = ℕ} 0 1 = cc in absurd (omega arith) }
+
+pub tells-ltb : {P : Type 0} (a b : ℕ) → (a < b → P) → (P → a < b) → Tells P (ltb a b)
+tells-ltb a b f g = record { holds = λ e. f (ltb-true a b e); fails = λ e p. not-le-of-lt (g p) (ltb-false a b e) }
+
+pub tells-leb : {P : Type 0} (a b : ℕ) → (a ≤ b → P) → (P → a ≤ b) → Tells P (leb a b)
+tells-leb a b f g = record { holds = λ e. f (leb-true a b e); fails = λ e p. not-le-of-lt (leb-false a b e) (g p) }
+
+-- What a test `if !b` leaves behind it: the statement is refuted where the branch is taken, and holds where it is not.
+pub told-no : {P : Type 0} {b : Bool} → Tells P b → not b ≡ true → P → ⊥
+told-no {b = b} t e = t .fails (not-true b e)
+
+pub told-yes : {P : Type 0} {b : Bool} → Tells P b → not b ≡ false → P
+told-yes {b = b} t e = t .holds (not-false b e)

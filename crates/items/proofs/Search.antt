@@ -1,0 +1,55 @@
+-- The searches below a bound: a test of each number tells of them all, and the first number of which a test says yes is one number. They
+-- rest on induction from the low end. Assumes nothing.
+use mathlib.Core.Path.{_≡_, refl, ap, ap₂}
+use mathlib.Core.Bool.{Bool, true, false, cond, _&&_}
+use Prim.Native.Nat.{ℕ, zero, suc, _≤_, _<_, zero-le}
+use native.Mathlib.Nat.{le-antisymm}
+use native.Mathlib.Decide.{decLe}
+use native.Mathlib.Omega.{arith}
+use Rattle.items.specs.Search.{everyBelow, firstBelow}
+use Rattle.items.proofs.Bools.{true-not-false, and-left, and-right}
+
+-- The test says yes of each number below n exactly if `everyBelow` does.
+pub every-all : (n : ℕ) (f : ℕ → Bool) → ((k : ℕ) → k < n → f k ≡ true) → everyBelow n f ≡ true
+unfolding everyBelow
+every-all zero f h = refl
+every-all (suc n) f h = ap₂ _&&_ (h 0 (omega arith)) (every-all n (λ k. f (suc k)) (λ k l. h (suc k) (omega arith)))
+
+pub every-at : (n : ℕ) (f : ℕ → Bool) → everyBelow n f ≡ true → (k : ℕ) → k < n → f k ≡ true
+unfolding everyBelow
+every-at zero f e k l = absurd (omega arith)
+every-at (suc n) f e zero l = and-left (f 0) (everyBelow n (λ j. f (suc j))) e
+every-at (suc n) f e (suc k) l = every-at n (λ j. f (suc j)) (and-right (f 0) (everyBelow n (λ j. f (suc j))) e) k (omega arith)
+
+-- i is the first number below n of which the test says yes, or n where it says no of each.
+pub record First (n : ℕ) (f : ℕ → Bool) (i : ℕ) : Type 0 where
+  pub within : i ≤ n
+  pub before : (j : ℕ) → j < i → f j ≡ false
+  pub here : i < n → f i ≡ true
+
+first-next : (n : ℕ) (f : ℕ → Bool) (i : ℕ) → f 0 ≡ false → First n (λ k. f (suc k)) i → First (suc n) f (suc i)
+first-next n f i e h = record { within = omega arith; before = before; here = λ l. h .here (omega arith) }
+  where
+    before : (j : ℕ) → j < suc i → f j ≡ false
+    before zero l = e
+    before (suc j) l = h .before j (omega arith)
+
+pub first-below : (n : ℕ) (f : ℕ → Bool) → First n f (firstBelow n f)
+unfolding firstBelow
+first-below zero f = record { within = zero-le; before = λ j l. absurd (omega arith); here = λ l. absurd (omega arith) }
+first-below (suc n) f = go (f 0) refl (first-below n (λ k. f (suc k)))
+  where
+    go : (b : Bool) → f 0 ≡ b → First n (λ k. f (suc k)) (firstBelow n (λ k. f (suc k)))
+        → First (suc n) f (cond b 0 (suc (firstBelow n (λ k. f (suc k)))))
+    go true e h = record { within = zero-le; before = λ j l. absurd (omega arith); here = λ l. e }
+    go false e h = first-next n f _ e h
+
+first-le : {n : ℕ} {f : ℕ → Bool} {i j : ℕ} → First n f i → First n f j → i ≤ j
+first-le {i = i} {j = j} h g = go (decLe i j)
+  where
+    go : Dec (i ≤ j) → i ≤ j
+    go (yes l) = l
+    go (no l) = absurd (true-not-false (g .here (omega arith)) (h .before j (omega arith)))
+
+pub first-is : {n : ℕ} {f : ℕ → Bool} {i : ℕ} → First n f i → i ≡ firstBelow n f
+first-is {n} {f} h = le-antisymm (first-le h (first-below n f)) (first-le (first-below n f) h)

@@ -1,0 +1,5 @@
+-- What the contracts of `items` cite: searches below a bound, names, the item table, and what looking up a name answers.
+pub mod Search
+pub mod Names
+pub mod Table
+pub mod Lookup

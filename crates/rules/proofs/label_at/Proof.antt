@@ -1,0 +1,23 @@
+use Rattle.rules.proofs.Laws.{label-made}
+use borrow.Author.Needs.{needs}
+use Rattle.rules.proofs.label_at.Statement.{statement}
+use Rattle.rules.proofs.label_at.Tie as tie
+use Rattle.rules.proofs.label_at.Reads as reads
+use Rattle.rules.proofs.label_at.Lts as lts
+use Rattle.classes.proofs.Class.new.Reads as new-reads
+use Rattle.rules.proofs.value_at.Reads as value-at-reads
+
+value-at-requires : tie.Need-value-at-requires
+value-at-requires c κs = search needs
+
+value-at-requires-2 : tie.Need-value-at-requires-2
+value-at-requires-2 c κs = search needs
+
+new-requires : tie.Need-new-requires
+new-requires c κs = search needs
+
+returns : tie.Need-returns
+returns c = search (label-made, needs)
+
+pub label-at-spec : {M : Type 1} → statement M
+label-at-spec = tie.close (tie.spec value-at-requires value-at-requires-2 new-requires returns)

@@ -1,0 +1,77 @@
+use mathlib.Core.Path.{_∙_, ap₂}
+use mathlib.Core.List.{[], _∷_}
+use Rattle.classes.specs.Class.{classOf}
+use Rattle.rules.specs.Table.{recordAt}
+use borrow.Author.Needs.{needs}
+use Rattle.rules.proofs.rule_at.Statement.{statement}
+use Rattle.rules.proofs.rule_at.Tie as tie
+use Rattle.rules.proofs.rule_at.Reads as reads
+use Rattle.rules.proofs.rule_at.Lts as lts
+use Rattle.classes.proofs.Class.new.Reads as new-reads
+use Rattle.rules.proofs.word.Reads as word-reads
+
+word-requires : tie.Need-word-requires
+word-requires c κs = search needs
+
+word-requires-2 : tie.Need-word-requires-2
+word-requires-2 c κs = search needs
+
+word-requires-3 : tie.Need-word-requires-3
+word-requires-3 c κs = search needs
+
+word-requires-4 : tie.Need-word-requires-4
+word-requires-4 c κs = search needs
+
+word-requires-5 : tie.Need-word-requires-5
+word-requires-5 c κs = search needs
+
+word-requires-6 : tie.Need-word-requires-6
+word-requires-6 c κs = search needs
+
+word-requires-7 : tie.Need-word-requires-7
+word-requires-7 c κs = search needs
+
+word-requires-8 : tie.Need-word-requires-8
+word-requires-8 c κs = search needs
+
+word-requires-9 : tie.Need-word-requires-9
+word-requires-9 c κs = search needs
+
+word-requires-10 : tie.Need-word-requires-10
+word-requires-10 c κs = search needs
+
+word-requires-11 : tie.Need-word-requires-11
+word-requires-11 c κs = search needs
+
+word-requires-12 : tie.Need-word-requires-12
+word-requires-12 c κs = search needs
+
+word-requires-13 : tie.Need-word-requires-13
+word-requires-13 c κs = search needs
+
+new-requires : tie.Need-new-requires
+new-requires c κs = search needs
+
+returns : tie.Need-returns
+unfolding recordAt
+returns c = λ i. record { kind = c .before .before .before .before .before .before .before .before .before .before .before .before .before .word .ensures i; count = c .before .before .before .before .before .before .before .before .before .before .before .before .word2 .ensures i; left = c .before .before .before .before .before .before .before .before .before .before .before .word3 .ensures i ∷ c .before .before .before .before .before .before .before .before .before .before .word4 .ensures i ∷ c .before .before .before .before .before .before .before .before .before .word5 .ensures i ∷ c .before .before .before .before .before .before .before .before .word6 .ensures i ∷ c .before .before .before .before .before .before .before .word7 .ensures i ∷ c .before .before .before .before .before .before .word8 .ensures i ∷ c .before .before .before .before .before .word9 .ensures i ∷ c .before .before .before .before .word10 .ensures i ∷ []; right = c .before .before .before .word11 .ensures i; class = (c .new .ensures ∙ ap₂ classOf (c .before .before .word12 .ensures) (c .before .word13 .ensures)) i }
+
+pub rule-at-spec : {M : Type 1} → statement M
+rule-at-spec =
+    tie.close
+    (tie.spec
+    word-requires
+    word-requires-2
+    word-requires-3
+    word-requires-4
+    word-requires-5
+    word-requires-6
+    word-requires-7
+    word-requires-8
+    word-requires-9
+    word-requires-10
+    word-requires-11
+    word-requires-12
+    word-requires-13
+    new-requires
+    returns)

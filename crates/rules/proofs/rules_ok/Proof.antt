@@ -1,0 +1,68 @@
+use Prim.Native.Nat.{_≤_, _-_}
+use native.Mathlib.Omega.{arith}
+use Rattle.classes.proofs.Tells.{told-no, told-yes}
+use Rattle.rules.specs.Table.{recordAt}
+use Rattle.rules.proofs.Accepts.{StandingBefore, standing-none, standing-more, table-items, table-rules, table-short, table-bad, table-good}
+use borrow.Author.Needs.{needs}
+use Rattle.rules.proofs.rules_ok.Statement.{statement}
+use Rattle.rules.proofs.rules_ok.Tie as tie
+use Rattle.rules.proofs.rules_ok.Reads as reads
+use Rattle.rules.proofs.rules_ok.Lts as lts
+use Rattle.rules.proofs.standing.Reads as standing-reads
+
+abbrev Inv-loop : tie.InvT-loop
+Inv-loop rules m n r₀ r = StandingBefore (recordAt rules) m n r × (r ≤ m)
+
+abbrev μ-loop : tie.MeasureT-loop
+μ-loop rules m n r₀ r = m - r
+
+returns : tie.Need-returns Inv-loop μ-loop
+returns c = search (table-items, needs)
+
+returns-2 : tie.Need-returns-2 Inv-loop μ-loop
+returns-2 c = search (table-rules, needs)
+
+mul-if3 : tie.Need-mul-if3 Inv-loop μ-loop
+mul-if3 c = search needs
+
+returns-3 : tie.Need-returns-3 Inv-loop μ-loop
+returns-3 c = search (table-short, needs)
+
+loop-holds : tie.Need-loop-holds Inv-loop μ-loop
+loop-holds c = (standing-none, omega arith)
+
+standing-requires : tie.Need-standing-requires Inv-loop μ-loop
+standing-requires c κs = search needs
+
+returns-4 : tie.Need-returns-4 Inv-loop μ-loop
+returns-4 c = table-bad _ _ _ _ (c .before .before .loop-test .taken) (told-no (c .before .standing .ensures) (c .if4 .taken))
+
+add-r : tie.Need-add-r Inv-loop μ-loop
+add-r c = search needs
+
+loop-less : tie.Need-loop-less Inv-loop μ-loop
+loop-less c = search needs
+
+loop-again : tie.Need-loop-again Inv-loop μ-loop
+loop-again c = (standing-more (c .before .before .before .loop .inv .0) (told-yes (c .before .standing .ensures) (c .if4 .left)), omega arith)
+
+returns-5 : tie.Need-returns-5 Inv-loop μ-loop
+returns-5 c = search (table-good, needs)
+
+pub rules-ok-spec : {M : Type 1} → statement M
+rules-ok-spec =
+    tie.close
+    (tie.spec
+    Inv-loop
+    μ-loop
+    returns
+    returns-2
+    mul-if3
+    returns-3
+    loop-holds
+    standing-requires
+    returns-4
+    add-r
+    loop-less
+    loop-again
+    returns-5)
