@@ -9,10 +9,6 @@ use Rattle.classes.specs.Tells.{Tells}
 pub true-not-false : {b : Bool} → b ≡ true → b ≡ false → ⊥
 true-not-false e d = let z : _≡_ {A = ℕ} 0 1 = cc in omega arith
 
-pub false-of : (b : Bool) → (b ≡ true → ⊥) → b ≡ false
-false-of true n = absurd (n refl)
-false-of false n = refl
-
 pub and-left : (a b : Bool) → (a && b) ≡ true → a ≡ true
 and-left true b e = refl
 and-left false b e = e

@@ -1,5 +1,7 @@
--- Why it is true, and what callers cite: bools and what they tell, searches below a bound, names, the item table, and looking up a name.
+-- Why it is true, and what callers cite: what bools tell, searches below a bound, names, the item table, looking up a name, and the count.
 pub mod Bools
 pub mod Search
 pub mod Names
 pub mod Table
+pub mod Lookup
+pub mod Counted

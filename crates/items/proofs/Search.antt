@@ -1,6 +1,6 @@
 -- The searches below a bound: a test of each number tells of them all, and the first number of which a test says yes is one number. They
 -- rest on induction from the low end. Assumes nothing.
-use mathlib.Core.Path.{_≡_, refl, ap, ap₂}
+use mathlib.Core.Path.{_≡_, refl, ap₂}
 use mathlib.Core.Bool.{Bool, true, false, cond, _&&_}
 use Prim.Native.Nat.{ℕ, zero, suc, _≤_, _<_, zero-le}
 use native.Mathlib.Nat.{le-antisymm}

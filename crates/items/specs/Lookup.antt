@@ -11,19 +11,19 @@ use Rattle.items.specs.Table.{tableFits, entryByte}
 use Rattle.items.specs.declared.Found.{Found}
 use Rattle.items.specs.declared.Found.the-variants.{At, Absent, BadTable}
 
--- The refusal's number, 10 for BAD_TABLE, and 0 for an answer that is no refusal.
+-- "10 | BAD_TABLE | 0": the number of the refusal, 0 where the answer is no refusal, and its place. Where an item is found the place is its
+-- number.
 abbrev pub foundNumber : Found → ℕ
 foundNumber (At i) = 0
 foundNumber Absent = 0
 foundNumber BadTable = 10
 
--- The refusal's place, 0 for BAD_TABLE; the item's number where the name was found.
 abbrev pub foundPlace : Found → ℕ
 foundPlace (At i) = i
 foundPlace Absent = 0
 foundPlace BadTable = 0
 
--- Entry i has the name's bytes, and zeros behind them.
+-- "those bytes": entry i has the name's bytes, and zeros behind them.
 unfoldable pub sameName : List ℕ → ℕ → List ℕ → Bool
 sameName t i name = everyBelow nameRoom (λ k. eqb (entryByte t i k) (getD name k 0))
 

@@ -9,35 +9,35 @@ use lib.ListN.{length, getD, take, drop}
 use Rattle.items.specs.Search.{firstBelow}
 use Rattle.items.specs.Names.{nameRoom, nameByte}
 
--- "Sizes: 0 to 256 items."
+-- "Sizes: .. 0 to 256 items".
 abbrev pub mostItems : ℕ
 mostItems = 256
 
--- "a buffer too short for it is BAD_TABLE": the table has at most 256 items and room for each.
+-- "Each table comes with its count; .. a buffer too short for it is BAD_TABLE": at most 256 items, and room for each.
 unfoldable pub tableFits : List ℕ → ℕ → Bool
 tableFits t n = leb n mostItems && leb (n * nameRoom) (length t)
 
 -- Byte k of entry i; what lies past the table's end is 0.
 unfoldable pub entryByte : List ℕ → ℕ → ℕ → ℕ
-entryByte t i k = getD t (i * 16 + k) 0
+entryByte t i k = getD t (i * nameRoom + k) 0
 
--- How many bytes of entry i stand before its first zero byte, 16 where it has none.
+-- How many bytes of entry i stand before its first zero byte: 16 where it has none, 0 where it lies outside the table.
 unfoldable pub nameLen : List ℕ → ℕ → ℕ
 nameLen t i = firstBelow nameRoom (λ k. eqb (entryByte t i k) 0)
 
 -- The bytes of entry i before its first zero byte.
 abbrev pub nameOf : List ℕ → ℕ → List ℕ
-nameOf t i = take (nameLen t i) (drop (i * 16) t)
+nameOf t i = take (nameLen t i) (drop (i * nameRoom) t)
 
 -- Entry i of a and entry j of b have the same 16 bytes.
 pub record SameEntry (a : List ℕ) (i : ℕ) (b : List ℕ) (j : ℕ) : Type 0 where
   pub bytes : (k : ℕ) → k < nameRoom → entryByte a i k ≡ entryByte b j k
 
--- "Room in a name that isn't used (the rest of a short name) holds zero."
+-- "Room in a name .. that isn't used (the rest of a short name, ..) holds zero": the bytes of entry i from len on.
 pub record ZerosFrom (t : List ℕ) (i len : ℕ) : Type 0 where
   pub zeros : (k : ℕ) → len ≤ k → k < nameRoom → entryByte t i k ≡ 0
 
--- Entry i is a NAME with zeros behind it.
+-- "A NAME is 1 to 16 bytes of a-z, 0-9 and hyphen": entry i is one, with zeros behind it.
 pub record NameAt (t : List ℕ) (i : ℕ) : Type 0 where
   pub len : ℕ
   pub least : 1 ≤ len

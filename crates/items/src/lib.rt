@@ -8,6 +8,12 @@ ghost use Rattle.items.specs.Names.{nameByte, isName};
 ghost use Rattle.items.specs.Table.{entryByte, nameLen, SameEntry, ZerosFrom, NameAt, NewAt, ItemsOk};
 ghost use Rattle.items.specs.Lookup.{sameName, findIn};
 
+// The most items that a table has.
+pub const MOST_ITEMS: usize = 256;
+
+// The room that a table has for each name, and the most bytes of a name.
+pub const NAME_ROOM: usize = 16;
+
 // What looking up a name answers: refusal 10 at 0 where the table is too long or its buffer too short, that no item has the name, or the
 // number of the item, from 0.
 pub enum Found {
@@ -21,10 +27,10 @@ pub enum Found {
 pub fn find(items: &[u8], n: usize, name: &[u8]) -> Found
     ensures { λ r. ⌜ r ≡ findIn (now (items .entry)) n (now (name .entry)) ⌝ }
 {
-    if 256 < n {
+    if MOST_ITEMS < n {
         return Found::BadTable;
     }
-    if items.len() < n * 16 {
+    if items.len() < n * NAME_ROOM {
         return Found::BadTable;
     }
     if !is_name(name) {
@@ -39,10 +45,10 @@ pub fn find(items: &[u8], n: usize, name: &[u8]) -> Found
 pub fn items_ok(items: &[u8], n: usize) -> bool
     ensures { λ r. ⌜ Tells (ItemsOk (now (items .entry)) n) r ⌝ }
 {
-    if 256 < n {
+    if MOST_ITEMS < n {
         return false;
     }
-    if items.len() < n * 16 {
+    if items.len() < n * NAME_ROOM {
         return false;
     }
     let mut i = 0;
@@ -77,7 +83,7 @@ pub fn is_name(name: &[u8]) -> bool
     if name.len() < 1 {
         return false;
     }
-    if 16 < name.len() {
+    if NAME_ROOM < name.len() {
         return false;
     }
     let mut k = 0;
@@ -95,23 +101,23 @@ pub fn name_len(items: &[u8], i: usize) -> usize
     ensures { λ r. ⌜ r ≡ nameLen (now (items .entry)) i ⌝ }
 {
     let mut k = 0;
-    while k < 16 {
+    while k < NAME_ROOM {
         if byte(items, i, k) == 0 {
             return k;
         }
         k += 1;
     }
-    16
+    NAME_ROOM
 }
 
 // Byte k of entry i, and 0 past the table's end.
 fn byte(items: &[u8], i: usize, k: usize) -> u8
     ensures { λ r. ⌜ r ≡ entryByte (now (items .entry)) i k ⌝ }
 {
-    if items.len() / 16 < i {
+    if items.len() / NAME_ROOM < i {
         return 0;
     }
-    let at = i * 16;
+    let at = i * NAME_ROOM;
     if items.len() - at <= k {
         return 0;
     }
@@ -123,7 +129,7 @@ fn same(a: &[u8], i: usize, b: &[u8], j: usize) -> bool
     ensures { λ r. ⌜ Tells (SameEntry (now (a .entry)) i (now (b .entry)) j) r ⌝ }
 {
     let mut k = 0;
-    while k < 16 {
+    while k < NAME_ROOM {
         if byte(a, i, k) != byte(b, j, k) {
             return false;
         }
@@ -154,7 +160,7 @@ fn holds_name(items: &[u8], i: usize) -> bool
     if len < 1 {
         return false;
     }
-    let at = i * 16;
+    let at = i * NAME_ROOM;
     if !is_name(&items[at..at + len]) {
         return false;
     }
@@ -166,7 +172,7 @@ fn zeros_from(items: &[u8], i: usize, len: usize) -> bool
     ensures { λ r. ⌜ Tells (ZerosFrom (now (items .entry)) i len) r ⌝ }
 {
     let mut k = len;
-    while k < 16 {
+    while k < NAME_ROOM {
         if byte(items, i, k) != 0 {
             return false;
         }

@@ -3,10 +3,10 @@
 use mathlib.Core.Bool.{Bool, _&&_}
 use Prim.Native.Nat.{ℕ, _^_}
 use lib.Dec.{T, leb, ltb, leb→le, ltb→lt}
-use Rattle.classes.specs.Class.{IsClass}
+use Rattle.classes.specs.Class.{IsClass, commonOf}
 use Rattle.classes.specs.Parts.{fromParts}
 use Rattle.classes.specs.declared.Class.{Class}
-use Rattle.classes.proofs.Parts.{covers-parts, parts-cover, join-parts, lowest-parts, part-top, fromParts-part, fromParts-class, parts-ext, class-discrete}
+use Rattle.classes.proofs.Parts.{covers-parts, parts-cover, join-parts, common-parts, lowest-parts, part-top, fromParts-part, fromParts-class, parts-ext, class-discrete}
 use Rattle.labelling.specs.Classes.{classes, classParts}
 use Rattle.labelling.proofs.PartLaws.{PartLaws}
 use Rattle.labelling.proofs.Search.{and-left, and-right}
@@ -17,6 +17,8 @@ classLaws = record {
   below-parts = λ x y h p s. covers-parts h p s;
   parts-below = λ x y h. parts-cover h;
   join-parts = join-parts;
+  common = commonOf;
+  common-parts = common-parts;
   lowest-parts = lowest-parts;
   part-top = λ x is p s. part-top is p s;
   same-parts = λ x y is it h. parts-ext is it h;

@@ -3,6 +3,7 @@ pub mod Search
 pub mod Lattice
 pub mod Joins
 pub mod Placed
+pub mod Same
 pub mod Settle
 pub mod Ordered
 pub mod Lowering

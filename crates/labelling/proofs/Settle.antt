@@ -16,7 +16,7 @@ use lib.Seq.{getD-set-same, getD-set-other}
 use Rattle.labelling.specs.Values.{Values}
 use Rattle.labelling.specs.Rules.{Left, Rule, cap, floor, follow, Book, RuleInside, Inside, LeftInside, joinOver, Met}
 use Rattle.labelling.specs.Labelling.{Labelling}
-use Rattle.labelling.specs.Greatest.{MetDown, MetUp, HeldUp, PushedDown, Between, Greatest, Placed}
+use Rattle.labelling.specs.Greatest.{MetDown, MetUp, HeldUp, PushedDown, Between, Greatest, Placed, Pushed}
 use Rattle.labelling.proofs.Lattice.{Lattice}
 use Rattle.labelling.proofs.Search.{everyBelow, every-at, every-all, failing, Failing, failing-tells}
 use Rattle.labelling.proofs.Joins.{joinOver-grows}
@@ -77,19 +77,13 @@ module _ (K : Values) (L : Lattice K) where
   downb-holds (floor l v) f t = tt
   downb-holds (follow l i) f t = L .belowb-holds _ _ t
 
-  -- g is f with the rule's item lowered to what the rule allows.
-  abbrev pub Pushed : ℕ → Rule (K .Val) → (ℕ → K .Val) → (ℕ → K .Val) → Type 0
-  Pushed n (cap i v) f g = Placed n f i (L .meet (f i) v) g
-  Pushed n (floor l v) f g = (j : ℕ) → j < n → g j ≡ f j
-  Pushed n (follow l i) f g = Placed n f i (L .meet (f i) (joinOver K l f)) g
-
   -- Labels after a push are below those before it, and above all labels below those that meet the rule.
-  pub pushed-under : (n : ℕ) (r : Rule (K .Val)) (f g : ℕ → K .Val) → Pushed n r f g → (j : ℕ) → j < n → K .Below (g j) (f j)
+  pub pushed-under : (n : ℕ) (r : Rule (K .Val)) (f g : ℕ → K .Val) → Pushed K (L .meet) n r f g → (j : ℕ) → j < n → K .Below (g j) (f j)
   pushed-under n (cap i v) f g x = placed-cases (λ j y. K .Below y (f j)) x (L .meet-left _ _) (λ j s. L .reflexive _)
   pushed-under n (floor l v) f g x = λ j s. subst (λ y. K .Below y (f j)) (sym (x j s)) (L .reflexive _)
   pushed-under n (follow l i) f g x = placed-cases (λ j y. K .Below y (f j)) x (L .meet-left _ _) (λ j s. L .reflexive _)
 
-  pub pushed-above : (n : ℕ) (r : Rule (K .Val)) → RuleInside n r → (f g : ℕ → K .Val) → Pushed n r f g → (h : ℕ → K .Val) → MetDown K r h → ((j : ℕ) → j < n → K .Below (h j) (f j)) → (j : ℕ) → j < n → K .Below (h j) (g j)
+  pub pushed-above : (n : ℕ) (r : Rule (K .Val)) → RuleInside n r → (f g : ℕ → K .Val) → Pushed K (L .meet) n r f g → (h : ℕ → K .Val) → MetDown K r h → ((j : ℕ) → j < n → K .Below (h j) (f j)) → (j : ℕ) → j < n → K .Below (h j) (g j)
   pushed-above n (cap i v) s f g x h met below = placed-cases (λ j y. K .Below (h j) y) x (L .meet-greatest _ _ _ (below i s) met) below
   pushed-above n (floor l v) s f g x h met below = λ j t. subst (λ y. K .Below (h j) y) (sym (x j t)) (below j t)
   pushed-above n (follow l i) s f g x h met below =
@@ -101,10 +95,16 @@ module _ (K : Values) (L : Lattice K) where
   pub between-start : (b : Book (K .Val)) (u : ℕ → K .Val) → Between K b u u
   between-start b u = record { under = λ i s. L .reflexive _; above = λ h down. down .under }
 
-  pub between-push : {b : Book (K .Val)} → Inside b → {u f g : ℕ → K .Val} → Between K b u f → (r : ℕ) → r < b .rules → Pushed (b .items) (b .rule r) f g → Between K b u g
+  pub between-push : {b : Book (K .Val)} → Inside b → {u f g : ℕ → K .Val} → Between K b u f → (r : ℕ) → r < b .rules → Pushed K (L .meet) (b .items) (b .rule r) f g → Between K b u g
   between-push {b} inside {u} {f} {g} w r s x = record {
     under = λ i t. L .transitive _ _ _ (pushed-under (b .items) (b .rule r) f g x i t) (w .under i t);
     above = λ h down. pushed-above (b .items) (b .rule r) (inside .inside r s) f g x h (down .meets r s) (w .above h down);
+  }
+
+  pub between-trans : {b : Book (K .Val)} {u f g : ℕ → K .Val} → Between K b u f → Between K b f g → Between K b u g
+  between-trans {b} {u} {f} {g} v w = record {
+    under = λ i s. L .transitive _ _ _ (w .under i s) (v .under i s);
+    above = λ h down. w .above h (record { under = v .above h down; meets = down .meets });
   }
 
   pub between-met : {b : Book (K .Val)} {u f : ℕ → K .Val} → Between K b u f → ((r : ℕ) → r < b .rules → MetDown K (b .rule r) f) → Greatest K b u f
@@ -117,7 +117,7 @@ module _ (K : Values) (L : Lattice K) where
   length-push (floor m v) l = refl
   length-push (follow m i) l = length-set l i _
 
-  push-pushed : (n : ℕ) (r : Rule (K .Val)) → RuleInside n r → (l : List (K .Val)) → length l ≡ n → Pushed n r (labelsOf l) (labelsOf (push r l))
+  push-pushed : (n : ℕ) (r : Rule (K .Val)) → RuleInside n r → (l : List (K .Val)) → length l ≡ n → Pushed K (L .meet) n r (labelsOf l) (labelsOf (push r l))
   unfolding push
   push-pushed n (cap i v) s l e = set-placed n l i _ (K .lowest) e s
   push-pushed n (floor m v) s l e = λ j t. refl

@@ -4,42 +4,22 @@
 -- Assumes nothing.
 use mathlib.Core.Path.{_≡_, refl, sym, _∙_, ap, ap₂, subst}
 use mathlib.Core.Logic.{_⊎_, inl, inr, ite, dite, if-pos, if-neg}
-use Prim.Native.Nat.{ℕ, zero, suc, _≤_, _<_, max}
+use Prim.Native.Nat.{ℕ, zero, suc, _≤_, _<_, min, max}
 use native.Mathlib.Decide.{ℕ-discrete, decLt}
 use native.Mathlib.Nat.{not-suc-le-zero}
 use native.Mathlib.Omega.{arith}
 use Rattle.labelling.specs.Values.{Values, StrictlyBelow, numbers}
 use Rattle.labelling.specs.Rules.{Left, LeftInside, Rule, cap, floor, follow, mapRule, Book, RuleInside, Inside, joinUpTo, joinOver, Met}
 use Rattle.labelling.specs.Labelling.{Labelling, FirstDifference, Wanted, Minimal}
-use Rattle.labelling.specs.Parts.{Parts, inPart, partValues, Refused, AgreeIn}
+use Rattle.labelling.specs.Greatest.{MetDown, Placed, Pushed}
+use Rattle.labelling.specs.Lowered.{LabellingBelow, WantedBelow}
+use Rattle.labelling.specs.Parts.{Parts, inPart, partValues, Refused, RefusedBelow, AgreeIn}
 use Rattle.labelling.proofs.Search.{below-suc}
-use Rattle.labelling.proofs.Joins.{joinOver-same}
+use Rattle.labelling.proofs.Same.{met-same, wanted-same}
+use Rattle.labelling.proofs.Placed.{placed-map}
 use Rattle.labelling.proofs.Ordered.{Ordered, wanted-unique, wanted-minimal}
-use Rattle.labelling.proofs.Lowering.{numbersOrdered, wanted-or-none}
+use Rattle.labelling.proofs.Lowering.{numbersOrdered, wanted-below-top, wanted-or-none}
 use Rattle.labelling.proofs.PartLaws.{PartLaws}
-
--- A rule that is met is met by equal labels.
-pub met-same : (K : Values) (n : ℕ) (r : Rule (K .Val)) → RuleInside n r → {f g : ℕ → K .Val} → ((i : ℕ) → i < n → f i ≡ g i) → Met K r f → Met K r g
-met-same K n (cap i v) s h m = subst (λ x. K .Below x v) (h i s) m
-met-same K n (floor l v) s h m = subst (λ x. K .Below v x) (joinOver-same K s h) m
-met-same K n (follow l i) s {f} {g} h m =
-    subst (λ x. K .Below x (joinOver K l g)) (h i (s .1)) (subst (λ x. K .Below (f i) x) (joinOver-same K (s .0) h) m)
-
--- A labelling, and a wanted one, is so by the labels of the book's items alone.
-pub labelling-same : (K : Values) (b : Book (K .Val)) → Inside b → {f g : ℕ → K .Val} → ((i : ℕ) → i < b .items → f i ≡ g i) → Labelling K b f → Labelling K b g
-labelling-same K b inside h x = record {
-  labels = λ i s. subst (K .Is) (h i s) (x .labels i s);
-  meets = λ r s. met-same K (b .items) (b .rule r) (inside .inside r s) h (x .meets r s);
-}
-
-pub wanted-same : (K : Values) (b : Book (K .Val)) → Inside b → {f g : ℕ → K .Val} → ((i : ℕ) → i < b .items → f i ≡ g i) → Wanted K b f → Wanted K b g
-wanted-same K b inside {f} {g} h x = record {
-  labelling = labelling-same K b inside h (x .labelling);
-  least = λ k y i d. subst (λ v. StrictlyBelow K v (k i)) (h i (d .item)) (x .least k y i (moved k i d));
-}
-  where
-    moved : (k : ℕ → K .Val) (i : ℕ) → FirstDifference (b .items) g k i → FirstDifference (b .items) f k i
-    moved k i d = record { item = d .item; before = λ j l. h j (omega (arith, d .item)) ∙ d .before j l; differs = λ e. d .differs (sym (h i (d .item)) ∙ e) }
 
 inside-map : {A B : Type 0} (n : ℕ) (f : A → B) (r : Rule A) → RuleInside n r → RuleInside n (mapRule f r)
 inside-map n f (cap i v) s = s
@@ -57,7 +37,8 @@ module _ (P : Parts) (W : PartLaws P) where
   abbrev pub partOf : ℕ → Labels → ℕ → ℕ
   partOf p f i = P .part p (f i)
 
-  joins-parts : (p : ℕ) → p < P .count → (n : ℕ) (f : Labels) → P .part p (joinUpTo (P .values) n f) ≡ joinUpTo (partValues P p) n (partOf p f)
+  -- the join of labels, seen in a part
+  pub joins-parts : (p : ℕ) → p < P .count → (n : ℕ) (f : Labels) → P .part p (joinUpTo (P .values) n f) ≡ joinUpTo (partValues P p) n (partOf p f)
   joins-parts p s zero f = W .lowest-parts p s
   joins-parts p s (suc n) f = W .join-parts _ _ p s ∙ ap (λ x. max x (P .part p (f n))) (joins-parts p s n f)
 
@@ -71,6 +52,22 @@ module _ (P : Parts) (W : PartLaws P) where
   part-met (cap i v) f m = W .parts-below _ _ m
   part-met (floor l v) f m = W .parts-below _ _ (λ p s. subst (λ x. P .part p v ≤ x) (sym (joins-parts p s (l .count) (λ k. f (l .item k)))) (m p s))
   part-met (follow l i) f m = W .parts-below _ _ (λ p s. subst (λ x. P .part p (f i) ≤ x) (sym (joins-parts p s (l .count) (λ k. f (l .item k)))) (m p s))
+
+  -- A cap or a follow that is met is met in every part.
+  pub met-down-part : (r : Rule Val) (f : Labels) → MetDown (P .values) r f → (p : ℕ) → p < P .count → MetDown (partValues P p) (mapRule (P .part p) r) (partOf p f)
+  met-down-part (cap i v) f m p s = met-part (cap i v) f m p s
+  met-down-part (floor l v) f m p s = tt
+  met-down-part (follow l i) f m p s = met-part (follow l i) f m p s
+
+  -- A push is one in every part.
+  pub pushed-part : (n : ℕ) (r : Rule Val) (f g : Labels) → Pushed (P .values) (W .common) n r f g → (p : ℕ) → p < P .count → Pushed (partValues P p) min n (mapRule (P .part p) r) (partOf p f) (partOf p g)
+  pushed-part n (cap i v) f g x p s =
+      subst (λ k. Placed n (partOf p f) i k (partOf p g)) (W .common-parts _ _ p s) (placed-map (P .part p) x)
+  pushed-part n (floor l v) f g x p s = λ j t. ap (P .part p) (x j t)
+  pushed-part n (follow l i) f g x p s =
+      subst (λ k. Placed n (partOf p f) i k (partOf p g))
+      (W .common-parts _ _ p s ∙ ap (λ k. min (P .part p (f i)) k) (joins-parts p s (l .count) (λ k. f (l .item k))))
+      (placed-map (P .part p) x)
 
   ordered : Ordered (P .values)
   ordered = record {
@@ -169,6 +166,24 @@ module _ (P : Parts) (W : PartLaws P) where
       labelling = labelling-part (x .labelling) p s;
       least = λ h y i d. record { covered = other-below x p s h y i d; differs = d .differs };
     }
+
+    -- Below a bound that is the top of every part, wanted is wanted and refused is refused.
+    module _ (u : Labels) (tops : (p : ℕ) → p < P .count → (i : ℕ) → i < b .items → P .part p (u i) ≡ P .top p) where
+      pub parts-wanted-below : (f : Labels) → ((i : ℕ) → i < b .items → P .values .Is (f i)) → ((p : ℕ) → p < P .count → WantedBelow (partValues P p) (inPart P p b) (partOf p u) (partOf p f)) → Wanted (P .values) b f
+      parts-wanted-below f is parts =
+          parts-wanted f
+          (part-labelling f is (λ p s. (partOf p f, parts p s .below .labelling, λ i t. refl)))
+          (λ p s. wanted-below-top (tops p s) (parts p s))
+
+      under-top : (p : ℕ) → p < P .count → {f : ℕ → ℕ} → Labelling (partValues P p) (inPart P p b) f → LabellingBelow (partValues P p) (inPart P p b) (partOf p u) f
+      under-top p s x = record { labelling = x; under = λ i t. omega (arith, tops p s i t, x .labels i t) }
+
+      pub refused-below : {p : ℕ} → RefusedBelow P b u p → Refused P b p
+      refused-below {p} x = record {
+        isPart = x .isPart;
+        unmet = λ f y. x .unmet f (under-top p (x .isPart) y);
+        lower = λ q s. (x .lower q s .0, x .lower q s .1 .labelling);
+      }
 
     -- There is at most one wanted labelling, and it is minimal by definition 2.2.
     pub only-one-wanted : {f g : Labels} → Wanted (P .values) b f → Wanted (P .values) b g → (i : ℕ) → i < b .items → f i ≡ g i

@@ -4,7 +4,7 @@
 use mathlib.Core.Path.{_≡_}
 use Prim.Native.Nat.{ℕ, _<_}
 use Rattle.labelling.specs.Values.{Values}
-use Rattle.labelling.specs.Rules.{Rule, cap, floor, follow, Book, Met}
+use Rattle.labelling.specs.Rules.{Rule, cap, floor, follow, Book, joinOver, Met}
 
 -- The rule is a floor, or it is met.
 abbrev pub MetDown : (K : Values) → Rule (K .Val) → (ℕ → K .Val) → Type 0
@@ -41,3 +41,9 @@ pub record Greatest (K : Values) (b : Book (K .Val)) (u g : ℕ → K .Val) : Ty
 pub record Placed {A : Type 0} (n : ℕ) (f : ℕ → A) (i : ℕ) (v : A) (g : ℕ → A) : Type 0 where
   pub here : g i ≡ v
   pub other : (j : ℕ) → j < n → (j ≡ i → ⊥) → g j ≡ f j
+
+-- g is f with the rule's item lowered to what the rule allows: the common part of its label and the cap's class, or the join of the left labels.
+abbrev pub Pushed : (K : Values) → (K .Val → K .Val → K .Val) → ℕ → Rule (K .Val) → (ℕ → K .Val) → (ℕ → K .Val) → Type 0
+Pushed K common n (cap i v) f g = Placed n f i (common (f i) v) g
+Pushed K common n (floor l v) f g = (j : ℕ) → j < n → g j ≡ f j
+Pushed K common n (follow l i) f g = Placed n f i (common (f i) (joinOver K l f)) g

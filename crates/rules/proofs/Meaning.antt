@@ -1,6 +1,6 @@
 -- An accepted table is a book whose every name is an item, so that the theorems about books hold of it.
 -- Assumes nothing.
-use mathlib.Core.Path.{_≡_}
+use mathlib.Core.Path.{_≡_, refl, ap}
 use mathlib.Core.List.{List}
 use Prim.Native.Nat.{ℕ, zero, suc, _≤_, _<_, min}
 use native.Mathlib.Omega.{arith}
@@ -33,3 +33,31 @@ rules-inside {at} {m} {n} p = record { inside = λ r s. rule-inside n (at r) (p 
 
 pub table-inside : {t : List ℕ} {m n : ℕ} → TableAccepted t m n → meant.Inside (bookOf t m n)
 table-inside p = rules-inside (p .accepted)
+
+-- The rule that a record of each kind stands for.
+pub meaning-cap : (x : Rule) → x .kind ≡ 0 → meaningOf x ≡ meant.cap (leftItem x 0) (x .class)
+unfolding meaningOf
+meaning-cap x e = ap (λ k. byKind k (meant.cap (leftItem x 0) (x .class)) (meant.floor (leftOf x) (x .class)) (meant.follow (leftOf x) (x .right))) e
+
+pub meaning-floor : (x : Rule) → x .kind ≡ 1 → meaningOf x ≡ meant.floor (leftOf x) (x .class)
+unfolding meaningOf
+meaning-floor x e = ap (λ k. byKind k (meant.cap (leftItem x 0) (x .class)) (meant.floor (leftOf x) (x .class)) (meant.follow (leftOf x) (x .right))) e
+
+other-kind : {A : Type 0} (k : ℕ) (c f g : A) → (k ≡ 0 → ⊥) → (k ≡ 1 → ⊥) → byKind k c f g ≡ g
+other-kind zero c f g p q = absurd (p refl)
+other-kind (suc zero) c f g p q = absurd (q refl)
+other-kind (suc (suc k)) c f g p q = refl
+
+pub meaning-follow : (x : Rule) → (x .kind ≡ 0 → ⊥) → (x .kind ≡ 1 → ⊥) → meaningOf x ≡ meant.follow (leftOf x) (x .right)
+unfolding meaningOf
+meaning-follow x p q = other-kind (x .kind) _ _ _ p q
+
+-- what holds of every cap and of every follow holds of a record that is no floor
+pub meaning-other : (Q : meant.Rule Class → Type 0) (x : Rule) → (x .kind ≡ 1 → ⊥) → ((i : ℕ) (v : Class) → Q (meant.cap i v)) → ((l : meant.Left) (i : ℕ) → Q (meant.follow l i)) → Q (meaningOf x)
+unfolding meaningOf
+meaning-other Q x ne c g = go (x .kind) ne
+  where
+    go : (k : ℕ) → (k ≡ 1 → ⊥) → Q (byKind k (meant.cap (leftItem x 0) (x .class)) (meant.floor (leftOf x) (x .class)) (meant.follow (leftOf x) (x .right)))
+    go zero h = c _ _
+    go (suc zero) h = absurd (h refl)
+    go (suc (suc k)) h = g _ _

@@ -1,16 +1,16 @@
 -- `is_name` meets its contract. The loop's invariant: each byte passed is one that names are made of. The measure is what is left of the bytes.
 -- Assumes nothing.
 use mathlib.Core.Path.{_≡_, sym, _∙_}
-use mathlib.Core.Bool.{Bool, true, false, not}
+use mathlib.Core.Bool.{true, false}
 use mathlib.Core.List.{List}
-use Prim.Native.Nat.{ℕ, _-_, _≤_, _<_}
+use Prim.Native.Nat.{ℕ, _-_, _<_}
 use native.Mathlib.Omega.{arith}
 use lib.ListN.{length, getD}
 use borrow.Author.Count.{below-none, below-more}
 use borrow.Author.Needs.{needs}
 use borrow.Author.Tests.{not-true, not-false}
 use Rattle.classes.proofs.Tells.{tells-unique, tells-no}
-use Rattle.items.specs.Names.{nameRoom, nameByte, isName}
+use Rattle.items.specs.Names.{nameByte, isName}
 use Rattle.items.proofs.Bools.{true-not-false, tells-yes}
 use Rattle.items.proofs.Names.{Spelled, name-tells}
 use Rattle.items.proofs.is_name.Statement.{statement}

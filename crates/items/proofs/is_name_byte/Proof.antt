@@ -1,10 +1,10 @@
 -- `is_name_byte` meets its contract: the arms of its `match` are the three kinds of bytes that names are made of. Assumes nothing.
-use mathlib.Core.Path.{_≡_, refl}
+use mathlib.Core.Path.{_≡_}
 use mathlib.Core.Bool.{true, false}
 use Prim.Native.Nat.{ℕ, _≤_, _<_}
 use native.Mathlib.Omega.{arith}
 use borrow.Author.Needs.{needs}
-use borrow.Author.Tests.{le-leb, lt-leb, eq-eqb, ne-eqb}
+use borrow.Author.Tests.{le-leb, lt-leb, ne-eqb}
 use Rattle.items.specs.Names.{nameByte}
 use Rattle.items.proofs.is_name_byte.Statement.{statement}
 use Rattle.items.proofs.is_name_byte.Tie as tie

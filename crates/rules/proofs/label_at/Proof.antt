@@ -1,11 +1,8 @@
+-- `label_at` meets its contract. Assumes nothing.
 use Rattle.rules.proofs.Laws.{label-made}
 use borrow.Author.Needs.{needs}
 use Rattle.rules.proofs.label_at.Statement.{statement}
 use Rattle.rules.proofs.label_at.Tie as tie
-use Rattle.rules.proofs.label_at.Reads as reads
-use Rattle.rules.proofs.label_at.Lts as lts
-use Rattle.classes.proofs.Class.new.Reads as new-reads
-use Rattle.rules.proofs.value_at.Reads as value-at-reads
 
 value-at-requires : tie.Need-value-at-requires
 value-at-requires c κs = search needs

@@ -1,3 +1,4 @@
+-- `left_join` meets its contract. Assumes nothing.
 use mathlib.Core.Path.{_≡_}
 use Prim.Native.Nat.{_≤_, _-_}
 use native.Mathlib.Omega.{arith}
@@ -6,10 +7,6 @@ use Rattle.rules.proofs.Laws.{JoinSoFar, join-none, join-more, join-all
 use borrow.Author.Needs.{needs}
 use Rattle.rules.proofs.left_join.Statement.{statement}
 use Rattle.rules.proofs.left_join.Tie as tie
-use Rattle.rules.proofs.left_join.Reads as reads
-use Rattle.rules.proofs.left_join.Lts as lts
-use Rattle.classes.proofs.Class.join.Reads as join-reads
-use Rattle.rules.proofs.label_at.Reads as label-at-reads
 
 abbrev Inv-loop : tie.InvT-loop
 Inv-loop levels marks rule count join₀ k₀ join k = JoinSoFar rule (labelsIn levels marks) k join × (k ≤ 8) × (k ≤ rule .count) × (count ≡ rule .count)

@@ -1,3 +1,4 @@
+-- `left_ok` meets its contract. Assumes nothing.
 use Prim.Native.Nat.{_≤_, _-_}
 use native.Mathlib.Omega.{arith}
 use Rattle.classes.proofs.Tells.{told-no, told-yes}
@@ -5,9 +6,6 @@ use Rattle.rules.proofs.Accepts.{PlacesBefore, places-none, places-more
 use borrow.Author.Needs.{needs}
 use Rattle.rules.proofs.left_ok.Statement.{statement}
 use Rattle.rules.proofs.left_ok.Tie as tie
-use Rattle.rules.proofs.left_ok.Reads as reads
-use Rattle.rules.proofs.left_ok.Lts as lts
-use Rattle.rules.proofs.place_ok.Reads as place-ok-reads
 
 abbrev Inv-loop : tie.InvT-loop
 Inv-loop rule n k₀ k = PlacesBefore n rule k × (k ≤ 8)

@@ -1,9 +1,8 @@
+-- `place_ok` meets its contract. Assumes nothing.
 use Rattle.rules.proofs.Accepts.{place-spare, place-out, place-last, place-next}
 use borrow.Author.Needs.{needs}
 use Rattle.rules.proofs.place_ok.Statement.{statement}
 use Rattle.rules.proofs.place_ok.Tie as tie
-use Rattle.rules.proofs.place_ok.Reads as reads
-use Rattle.rules.proofs.place_ok.Lts as lts
 
 mul-item : tie.Need-mul-item
 mul-item c = search needs

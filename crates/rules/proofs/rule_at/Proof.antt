@@ -1,3 +1,4 @@
+-- `rule_at` meets its contract. Assumes nothing.
 use mathlib.Core.Path.{_∙_, ap₂}
 use mathlib.Core.List.{[], _∷_}
 use Rattle.classes.specs.Class.{classOf}
@@ -5,10 +6,6 @@ use Rattle.rules.specs.Table.{recordAt}
 use borrow.Author.Needs.{needs}
 use Rattle.rules.proofs.rule_at.Statement.{statement}
 use Rattle.rules.proofs.rule_at.Tie as tie
-use Rattle.rules.proofs.rule_at.Reads as reads
-use Rattle.rules.proofs.rule_at.Lts as lts
-use Rattle.classes.proofs.Class.new.Reads as new-reads
-use Rattle.rules.proofs.word.Reads as word-reads
 
 word-requires : tie.Need-word-requires
 word-requires c κs = search needs

@@ -1,3 +1,4 @@
+-- `rules_ok` meets its contract. Assumes nothing.
 use Prim.Native.Nat.{_≤_, _-_}
 use native.Mathlib.Omega.{arith}
 use Rattle.classes.proofs.Tells.{told-no, told-yes}
@@ -6,9 +7,6 @@ use Rattle.rules.proofs.Accepts.{StandingBefore, standing-none, standin
 use borrow.Author.Needs.{needs}
 use Rattle.rules.proofs.rules_ok.Statement.{statement}
 use Rattle.rules.proofs.rules_ok.Tie as tie
-use Rattle.rules.proofs.rules_ok.Reads as reads
-use Rattle.rules.proofs.rules_ok.Lts as lts
-use Rattle.rules.proofs.standing.Reads as standing-reads
 
 abbrev Inv-loop : tie.InvT-loop
 Inv-loop rules m n r₀ r = StandingBefore (recordAt rules) m n r × (r ≤ m)

@@ -1,12 +1,9 @@
+-- `standing` meets its contract. Assumes nothing.
 use Rattle.classes.proofs.Tells.{told-no, told-yes}
 use Rattle.rules.proofs.Accepts.{standing-bad, standing-last, standing-next}
 use borrow.Author.Needs.{needs}
 use Rattle.rules.proofs.standing.Statement.{statement}
 use Rattle.rules.proofs.standing.Tie as tie
-use Rattle.rules.proofs.standing.Reads as reads
-use Rattle.rules.proofs.standing.Lts as lts
-use Rattle.rules.proofs.rule_at.Reads as rule-at-reads
-use Rattle.rules.proofs.rule_ok.Reads as rule-ok-reads
 
 rule-at-requires : tie.Need-rule-at-requires
 rule-at-requires c κs = search needs

@@ -1,9 +1,8 @@
+-- `value_at` meets its contract. Assumes nothing.
 use Rattle.rules.proofs.Laws.{zero-past}
 use borrow.Author.Needs.{needs}
 use Rattle.rules.proofs.value_at.Statement.{statement}
 use Rattle.rules.proofs.value_at.Tie as tie
-use Rattle.rules.proofs.value_at.Reads as reads
-use Rattle.rules.proofs.value_at.Lts as lts
 
 mul-result : tie.Need-mul-result
 mul-result c = search needs

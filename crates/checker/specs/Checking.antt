@@ -1,0 +1,59 @@
+-- Which answer checking gives. The rules are given by number, `at`, and what accepts them is `Accepted`, so that a flat table and a list of rule
+-- records have one definition.
+-- Assumes nothing.
+use mathlib.Core.List.{List}
+use Prim.Native.Nat.{ℕ, _≤_}
+use lib.ListN.{length, getD}
+use Rattle.labelling.specs.Rules as meant
+use Rattle.labelling.specs.Classes.{classes}
+use Rattle.rules.specs.declared.Rule.{Rule}
+use Rattle.rules.specs.Record.{meaningOf, labelsIn}
+use Rattle.checker.specs.Answer.{Said, met, unmet, refused}
+use Rattle.checker.specs.First.{AllBelow, FirstFailing}
+
+-- The level of item i is at most 15.
+pub record LevelInRange (levels : List ℕ) (i : ℕ) : Type 0 where
+  pub most : getD levels i 0 ≤ 15
+
+-- Rule r is met.
+pub record RuleMet (at : ℕ → Rule) (levels marks : List ℕ) (r : ℕ) : Type 0 where
+  pub meets : meant.Met classes (meaningOf (at r)) (labelsIn levels marks)
+
+-- The lent labels are not shorter than the n items.
+pub record Room (n : ℕ) (levels marks : List ℕ) : Type 0 where
+  pub forLevels : n ≤ length levels
+  pub forMarks : n ≤ length marks
+
+module _ (Accepted : Type 0) (at : ℕ → Rule) (m n : ℕ) (levels marks : List ℕ) where
+  -- The lent labels are shorter than the items.
+  pub record Roomless : Type 0 where
+    pub accepted : Accepted
+    pub short : Room n levels marks → ⊥
+
+  -- Item i is "the first item whose given label has a level over 15; labels past the last item aren't looked at".
+  pub record BadAt (i : ℕ) : Type 0 where
+    pub accepted : Accepted
+    pub room : Room n levels marks
+    pub label : FirstFailing (LevelInRange levels) n i
+
+  -- Rule r is, "from 0 in table order", "the first rule not met".
+  pub record UnmetAt (r : ℕ) : Type 0 where
+    pub accepted : Accepted
+    pub room : Room n levels marks
+    pub labels : AllBelow (LevelInRange levels) n
+    pub rule : FirstFailing (RuleMet at levels marks) m r
+
+  -- Every rule is met.
+  pub record AllMet : Type 0 where
+    pub accepted : Accepted
+    pub room : Room n levels marks
+    pub labels : AllBelow (LevelInRange levels) n
+    pub rules : AllBelow (RuleMet at levels marks) m
+
+  -- "Checking: 10, 11, 12, then the answer", with the number and the place of each refusal.
+  pub data CheckSays : Said → Type 0 where
+    bad-table : (Accepted → ⊥) → CheckSays (refused 10 0)
+    no-room : Roomless → CheckSays (refused 11 0)
+    bad-label : {i : ℕ} → BadAt i → CheckSays (refused 12 i)
+    first-unmet : {r : ℕ} → UnmetAt r → CheckSays (unmet r)
+    all-met : AllMet → CheckSays met

@@ -1,0 +1,18 @@
+-- The first number below a bound of which a statement fails.
+-- Assumes nothing.
+use Prim.Native.Nat.{ℕ, _≤_, _<_}
+
+-- P holds of every number below n.
+pub record AllBelow (P : ℕ → Type 0) (n : ℕ) : Type 0 where
+  pub each : (j : ℕ) → j < n → P j
+
+-- i is the first number below n of which P does not hold.
+pub record FirstFailing (P : ℕ → Type 0) (n i : ℕ) : Type 0 where
+  pub below : i < n
+  pub before : AllBelow P i
+  pub fails : P i → ⊥
+
+-- What a search for it tells by a number: one below n is the first, and any other says that there is none.
+pub record Sought (P : ℕ → Type 0) (n i : ℕ) : Type 0 where
+  pub found : i < n → FirstFailing P n i
+  pub nowhere : n ≤ i → AllBelow P n

@@ -1,0 +1,103 @@
+// Checking: whether labels meet one rule, and the first rule of a table that they do not meet.
+//
+// Labels are lent as two slices, levels and marks. Nothing is written, and nothing is required.
+use rules::CAP;
+use rules::FLOOR;
+use rules::Rule;
+ghost use Prim.Native.Nat.{_≤_};
+ghost use lib.ListN.{length};
+ghost use Rattle.classes.specs.Tells.{Tells};
+ghost use Rattle.labelling.specs.Rules.{Met};
+ghost use Rattle.labelling.specs.Classes.{classes};
+ghost use Rattle.rules.specs.Record.{meaningOf, labelsIn};
+ghost use Rattle.rules.specs.Table.{recordAt};
+ghost use Rattle.rules.specs.Accepted.{TableAccepted};
+ghost use Rattle.checker.specs.Answer.{said};
+ghost use Rattle.checker.specs.First.{Sought};
+ghost use Rattle.checker.specs.Checking.{LevelInRange, RuleMet, Room, CheckSays};
+
+// What checking answers: every rule is met, or the number of the first one that is not, from 0 in table order; or why it refuses, for a bad
+// label with the number of the item.
+pub enum Checked {
+    Met,
+    Unmet(usize),
+    BadTable,
+    NoRoom,
+    BadLabel(usize),
+}
+
+// Whether the labels meet a rule. An item past the end of the labels has the lowest class.
+pub fn met(rule: Rule, levels: &[u64], marks: &[u64]) -> bool
+    ensures { λ r. ⌜ Tells (Met classes (meaningOf rule) (labelsIn (now (levels .entry)) (now (marks .entry)))) r ⌝ }
+{
+    let first = rules::label_at(levels, marks, rule.left[0]);
+    if rule.kind == CAP {
+        return rule.class.covers(first);
+    }
+    let join = rules::left_join(rule, levels, marks);
+    if rule.kind == FLOOR {
+        return join.covers(rule.class);
+    }
+    join.covers(rules::label_at(levels, marks, rule.right))
+}
+
+// BadTable where the table is not accepted with m rules and n items; NoRoom where there are fewer than n labels; BadLabel with the first of
+// the n items whose level is over 15; else Unmet with the first of the m rules that the labels do not meet, or Met.
+pub fn check(rules: &[u64], m: usize, n: usize, levels: &[u64], marks: &[u64]) -> Checked
+    ensures { λ r. ⌜ CheckSays (TableAccepted (now (rules .entry)) m n) (recordAt (now (rules .entry))) m n (now (levels .entry)) (now (marks .entry)) (said r) ⌝ }
+{
+    if !rules::rules_ok(rules, m, n) {
+        return Checked::BadTable;
+    }
+    if !has_room(levels, marks, n) {
+        return Checked::NoRoom;
+    }
+    let bad = first_bad(levels, n);
+    if bad < n {
+        return Checked::BadLabel(bad);
+    }
+    let unmet = first_unmet(rules, m, levels, marks);
+    if unmet < m {
+        return Checked::Unmet(unmet);
+    }
+    Checked::Met
+}
+
+// Whether there is a label for each of n items.
+fn has_room(levels: &[u64], marks: &[u64], n: usize) -> bool
+    ensures { λ r. ⌜ Tells (Room n (now (levels .entry)) (now (marks .entry))) r ⌝ }
+{
+    if levels.len() < n {
+        return false;
+    }
+    n <= marks.len()
+}
+
+// The first of n levels that is over 15, and n where none is.
+fn first_bad(levels: &[u64], n: usize) -> usize
+    requires { ⌜ n ≤ length (now levels) ⌝ }
+    ensures { λ i. ⌜ Sought (LevelInRange (now (levels .entry))) n i ⌝ }
+{
+    let mut i: usize = 0;
+    while i < n {
+        if 15 < levels[i] {
+            return i;
+        }
+        i += 1;
+    }
+    n
+}
+
+// The first of the table's m rules that the labels do not meet, and m where they meet each.
+fn first_unmet(rules: &[u64], m: usize, levels: &[u64], marks: &[u64]) -> usize
+    ensures { λ r. ⌜ Sought (RuleMet (recordAt (now (rules .entry))) (now (levels .entry)) (now (marks .entry))) m r ⌝ }
+{
+    let mut r: usize = 0;
+    while r < m {
+        if !met(rules::rule_at(rules, r), levels, marks) {
+            return r;
+        }
+        r += 1;
+    }
+    m
+}

@@ -1,0 +1,11 @@
+-- Why it is true: sums that fall, labels that are lowered, settling, and lowering item by item.
+pub mod Common
+pub mod OneItem
+pub mod Push
+pub mod Sweep
+pub mod Lacking
+pub mod Copying
+pub mod Attempts
+pub mod Core
+pub mod Answers
+pub mod Unique

@@ -1,0 +1,89 @@
+// Settling: labels are lowered until every cap and every follow is met. What is left is the greatest labelling below the
+// labels that it starts from, in every part by itself.
+use classes::Class;
+use rules::CAP;
+use rules::FLOOR;
+use rules::left_join;
+use rules::rule_at;
+ghost use mathlib.Core.Path.{_≡_};
+ghost use Prim.Native.Nat.{_+_, _<_};
+ghost use Rattle.rules.specs.Accepted.{RuleAccepted, TableAccepted};
+ghost use Rattle.rules.specs.Table.{recordAt};
+ghost use Rattle.solver.specs.Solving.{held, Room};
+ghost use Rattle.solver.specs.Steps.{LowersItem, PushesRule, Sweeps, Settles, ruleAt, turnOf};
+
+// Lowers item i to the common part of its label and a bound. Answers whether that changed anything.
+fn lower(levels: &mut [u64], marks: &mut [u64], i: usize, bound: Class) -> bool
+    requires { ⌜ Room (i + 1) (held (now levels) (now marks)) ⌝ }
+    ensures { λ r. ⌜ LowersItem i bound (held (now (levels .entry)) (now (marks .entry))) (held (now (levels .exit)) (now (marks .exit))) r ⌝ }
+{
+    let old = Class::new(levels[i], marks[i]);
+    if bound.covers(old) {
+        return false;
+    }
+    let new = old.common(bound);
+    levels[i] = new.level;
+    marks[i] = new.marks;
+    true
+}
+
+// Lowers the item that rule r bounds from above to what the rule allows. Answers whether that changed anything.
+fn push(rules: &[u64], n: usize, r: usize, levels: &mut [u64], marks: &mut [u64]) -> bool
+    requires { ⌜ Room n (held (now levels) (now marks)) × RuleAccepted n (recordAt (now rules) r) ⌝ }
+    ensures { λ x. ⌜ PushesRule n (ruleAt (now (rules .entry)) r) (held (now (levels .entry)) (now (marks .entry))) (held (now (levels .exit)) (now (marks .exit))) x ⌝ }
+{
+    let rule = rule_at(rules, r);
+    if rule.kind == CAP {
+        let i = rule.left[0] as usize;
+        return lower(levels, marks, i, rule.class);
+    }
+    if rule.kind == FLOOR {
+        return false;
+    }
+    let join = left_join(rule, levels, marks);
+    let i = rule.right as usize;
+    lower(levels, marks, i, join)
+}
+
+// The rule of the k-th turn: from the first rule on, or back from the last.
+fn turn(back: bool, m: usize, k: usize) -> usize
+    requires { ⌜ k < m ⌝ }
+    ensures { λ r. ⌜ r ≡ turnOf back m k ⌝ }
+{
+    if back { m - 1 - k } else { k }
+}
+
+// Pushes every rule once. Answers whether that changed anything.
+fn sweep(
+    rules: &[u64],
+    m: usize,
+    n: usize,
+    back: bool,
+    levels: &mut [u64],
+    marks: &mut [u64],
+) -> bool
+    requires { ⌜ Room n (held (now levels) (now marks)) × TableAccepted (now rules) m n ⌝ }
+    ensures { λ r. ⌜ Sweeps (now (rules .entry)) m n (held (now (levels .entry)) (now (marks .entry))) (held (now (levels .exit)) (now (marks .exit))) r ⌝ }
+{
+    let mut changed = false;
+    let mut k: usize = 0;
+    while k < m {
+        let r = turn(back, m, k);
+        let fell = push(rules, n, r, levels, marks);
+        changed = changed | fell;
+        k += 1;
+    }
+    changed
+}
+
+// Lowers labels until every cap and every follow is met. Sweeps go forward and back in turn, so that a chain of follows in
+// either order is one sweep.
+pub(crate) fn settle(rules: &[u64], m: usize, n: usize, levels: &mut [u64], marks: &mut [u64])
+    requires { ⌜ Room n (held (now levels) (now marks)) × TableAccepted (now rules) m n ⌝ }
+    ensures { λ _. ⌜ Settles (now (rules .entry)) m n (held (now (levels .entry)) (now (marks .entry))) (held (now (levels .exit)) (now (marks .exit))) ⌝ }
+{
+    let mut back = false;
+    while sweep(rules, m, n, back, levels, marks) {
+        back = !back;
+    }
+}
