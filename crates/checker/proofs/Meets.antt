@@ -1,9 +1,9 @@
 -- Whether one rule is met, by its kind: what covering tells of two classes it tells of the rule. And whether one level is in range.
 -- Assumes nothing.
-use mathlib.Core.Path.{_≡_, refl}
+use mathlib.Core.Path.{_≡_}
 use mathlib.Core.Bool.{Bool, true, false, not}
 use mathlib.Core.List.{List}
-use Prim.Native.Nat.{ℕ, zero, suc, _≤_, _<_}
+use Prim.Native.Nat.{ℕ, _≤_, _<_}
 use native.Mathlib.Omega.{arith}
 use lib.ListN.{getD}
 use Rattle.classes.specs.Class.{Covers}
@@ -13,27 +13,19 @@ use Rattle.classes.proofs.Tells.{tells-unique, told-no, told-yes}
 use Rattle.labelling.specs.Rules.{Met, joinOver}
 use Rattle.labelling.specs.Classes.{classes}
 use Rattle.rules.specs.declared.Rule.{Rule}
-use Rattle.rules.specs.Record.{byKind, leftOf, leftItem, meaningOf, labelsIn}
+use Rattle.rules.specs.Record.{leftOf, leftItem, meaningOf, labelsIn}
+use Rattle.rules.proofs.Meaning.{meaning-cap, meaning-floor, meaning-follow}
 use Rattle.checker.specs.Checking.{LevelInRange, RuleMet}
-
--- a kind that is neither a cap's nor a floor's is a follow's
-kind-other : {A : Type 0} (k : ℕ) (c f g : A) → (k ≡ 0 → ⊥) → (k ≡ 1 → ⊥) → byKind k c f g ≡ g
-kind-other zero c f g p q = absurd (p refl)
-kind-other (suc zero) c f g p q = absurd (q refl)
-kind-other (suc (suc k)) c f g p q = refl
 
 module _ (x : Rule) (f : ℕ → Class) where
   pub cap-met : {label : Class} {b : Bool} → x .kind ≡ 0 → label ≡ f (leftItem x 0) → Tells (Covers (x .class) label) b → Tells (Met classes (meaningOf x) f) b
-  unfolding meaningOf
-  cap-met e same t = rw (e, ← same) t
+  cap-met e same t = rw (meaning-cap x e, ← same) t
 
   pub floor-met : {join : Class} {b : Bool} → x .kind ≡ 1 → join ≡ joinOver classes (leftOf x) f → Tells (Covers join (x .class)) b → Tells (Met classes (meaningOf x) f) b
-  unfolding meaningOf
-  floor-met e same t = rw (e, ← same) t
+  floor-met e same t = rw (meaning-floor x e, ← same) t
 
   pub follow-met : {join label : Class} {b : Bool} → (x .kind ≡ 0 → ⊥) → (x .kind ≡ 1 → ⊥) → join ≡ joinOver classes (leftOf x) f → label ≡ f (x .right) → Tells (Covers join label) b → Tells (Met classes (meaningOf x) f) b
-  unfolding meaningOf
-  follow-met p q same right t = rw (kind-other, ← same, ← right) t
+  follow-met p q same right t = rw (meaning-follow x p q, ← same, ← right) t
 
 -- Any two answers to whether a rule is met are equal.
 pub met-unique : (x : Rule) (f : ℕ → Class) {a b : Bool} → Tells (Met classes (meaningOf x) f) a → Tells (Met classes (meaningOf x) f) b → a ≡ b

@@ -1,4 +1,4 @@
--- The answers of solving, one law for each, and that any two results which the promise allows are equal.
+-- The answers of solving, one law for each.
 -- Assumes nothing.
 use mathlib.Core.Path.{_≡_, refl, sym, _∙_, ap, ap₂, subst}
 use mathlib.Core.List.{List}
@@ -18,14 +18,12 @@ use Rattle.labelling.proofs.Whole.{parts-wanted-below, refused-below}
 use Rattle.rules.specs.Table.{bookOf}
 use Rattle.rules.specs.Accepted.{TableAccepted}
 use Rattle.rules.proofs.Meaning.{table-inside}
-use Rattle.solver.specs.Solving.{Buffers, held, labelsOf, Room, RestKept, SolveSays, WritesLabels, RefusesTable, RefusesRoom, RefusesBook}
+use Rattle.solver.specs.Solving.{Buffers, held, labelsOf, Room, refused, labelled, SolveSays, bad-table, no-room, no-labelling, writes-labels}
 use Rattle.solver.specs.Steps.{labelsAt}
 use Rattle.solver.specs.Lowers.{Copied}
 use Rattle.solver.specs.Labels.{Bounded, WantedEverywhere, LabelSays}
 use Rattle.solver.specs.declared.label.Outcome.{Outcome}
 use Rattle.solver.specs.declared.label.Outcome.the-variants.{Done, Without}
-use Rattle.solver.specs.declared.Solved.{Solved}
-use Rattle.solver.specs.declared.Solved.the-variants.{Labelled, BadTable, NoRoom, NoLabelling}
 
 -- Where labelling starts: the highest class at every item.
 pub record Highest (n : ℕ) (b : Buffers) : Type 0 where
@@ -48,26 +46,26 @@ highest-bounded ok x = record {
 }
 
 module _ (t : List ℕ) (m n : ℕ) (before : Buffers) where
-  pub says-table : (TableAccepted t m n → ⊥) → SolveSays t m n before BadTable before
-  says-table bad = record { bad = bad; untouched = refl }
+  pub says-table : (TableAccepted t m n → ⊥) → SolveSays t m n before (refused 10 0) before
+  says-table bad = bad-table (record { bad = bad; untouched = refl })
 
-  pub says-levels : TableAccepted t m n → length (before .levels) < n → SolveSays t m n before NoRoom before
-  says-levels ok s = record { accepted = ok; short = λ r. absurd (omega (arith, r .levels)); untouched = refl }
+  pub says-levels : TableAccepted t m n → length (before .levels) < n → SolveSays t m n before (refused 11 0) before
+  says-levels ok s = no-room (record { accepted = ok; short = λ r. absurd (omega (arith, r .levels)); untouched = refl })
 
-  pub says-marks : TableAccepted t m n → length (before .marks) < n → SolveSays t m n before NoRoom before
-  says-marks ok s = record { accepted = ok; short = λ r. absurd (omega (arith, r .marks)); untouched = refl }
+  pub says-marks : TableAccepted t m n → length (before .marks) < n → SolveSays t m n before (refused 11 0) before
+  says-marks ok s = no-room (record { accepted = ok; short = λ r. absurd (omega (arith, r .marks)); untouched = refl })
 
-  pub says-without : TableAccepted t m n → Room n before → (p : ℕ) (start mid : Buffers) (o : Outcome) → o ≡ Without p → Highest n start → LabelSays t m n start mid o → SolveSays t m n before (NoLabelling p) before
-  says-without ok room p start mid o e x r = record {
+  pub says-without : TableAccepted t m n → Room n before → (p : ℕ) (start mid : Buffers) (o : Outcome) → o ≡ Without p → Highest n start → LabelSays t m n start mid o → SolveSays t m n before (refused 9 p) before
+  says-without ok room p start mid o e x r = no-labelling (record {
     accepted = ok;
     room = room;
     unlabelled = refused-below classParts classLaws (bookOf t m n) (table-inside ok) (labelsOf start) (highest-tops x) (subst (LabelSays t m n start mid) e r);
     untouched = refl;
-  }
+  })
 
-  pub says-labelled : TableAccepted t m n → Room n before → (start mid after : Buffers) (o : Outcome) → o ≡ Done → Highest n start → LabelSays t m n start mid o → Copied n (mid .levels) (before .levels) (after .levels) → Copied n (mid .marks) (before .marks) (after .marks) → ((i : ℕ) → getD (after .marks) i 0 < 2 ^ 64) → SolveSays t m n before (Labelled n) after
+  pub says-labelled : TableAccepted t m n → Room n before → (start mid after : Buffers) (o : Outcome) → o ≡ Done → Highest n start → LabelSays t m n start mid o → Copied n (mid .levels) (before .levels) (after .levels) → Copied n (mid .marks) (before .marks) (after .marks) → ((i : ℕ) → getD (after .marks) i 0 < 2 ^ 64) → SolveSays t m n before (labelled n) after
   unfolding part topOf
-  says-labelled ok room start mid after o e x told levels marks words = record {
+  says-labelled ok room start mid after o e x told levels marks words = writes-labels (record {
     accepted = ok;
     room = room;
     count = refl;
@@ -75,7 +73,7 @@ module _ (t : List ℕ) (m n : ℕ) (before : Buffers) where
         (parts-wanted-below classParts classLaws (bookOf t m n) (table-inside ok) (labelsOf start) (highest-tops x) (labelsOf mid) is (everywhere .wanted));
     levels = record { sized = levels .sized; rest = levels .rest };
     marks = record { sized = marks .sized; rest = marks .rest };
-  }
+  })
     where
       everywhere : WantedEverywhere t m n start mid
       everywhere = subst (LabelSays t m n start mid) e told

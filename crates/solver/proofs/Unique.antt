@@ -1,10 +1,12 @@
 -- Any two results that the promise of solving allows are equal: the answer, and the content of both buffers.
 -- Assumes nothing.
 use mathlib.Core.Path.{_≡_, refl, sym, _∙_, ap, ap₂}
+use mathlib.Core.Bool.{cond}
 use mathlib.Core.List.{List}
 use Prim.Native.Nat.{ℕ, _≤_, _<_}
 use native.Mathlib.Decide.{decLt}
 use native.Mathlib.Omega.{arith}
+use lib.Dec.{eqb}
 use lib.ListN.{length, getD}
 use lib.Seq.{ext-getD}
 use Rattle.classes.specs.declared.Class.{Class}
@@ -13,7 +15,7 @@ use Rattle.labelling.specs.Classes.{classes, classParts}
 use Rattle.labelling.proofs.Demands.{wanted-unique, refused-unique, refused-unlabelled}
 use Rattle.rules.specs.Table.{bookOf}
 use Rattle.rules.proofs.Meaning.{table-inside}
-use Rattle.solver.specs.Solving.{Buffers, held, labelsOf, RestKept, SolveSays, WritesLabels, RefusesBook}
+use Rattle.solver.specs.Solving.{Said, labelled, refused, said, Buffers, held, labelsOf, RestKept, WritesLabels, RefusesBook, SolveSays, bad-table, no-room, no-labelling, writes-labels}
 use Rattle.solver.specs.declared.Solved.{Solved}
 use Rattle.solver.specs.declared.Solved.the-variants.{Labelled, BadTable, NoRoom, NoLabelling}
 
@@ -25,9 +27,28 @@ kept-same {n} {before} {a} {b} x y front = ext-getD 0 a b (x .sized ∙ sym (y .
     pick i (yes s) = front i s
     pick i (no s) = x .rest i (omega arith) ∙ sym (y .rest i (omega arith))
 
-module _ (t : List ℕ) (m n : ℕ) (before : Buffers) where
-  labelled-same : {k j : ℕ} {a b : Buffers} → WritesLabels t m n k before a → WritesLabels t m n j before b → (Labelled k ≡ Labelled j) × (a ≡ b)
-  labelled-same {k} {j} {a} {b} x y = (ap Labelled (x .count ∙ sym (y .count)), ap₂ held (kept-same (x .levels) (y .levels) (λ i s. ap (λ (c : Class). c .level) (labels i s))) (kept-same (x .marks) (y .marks) (λ i s. ap (λ (c : Class). c .marks) (labels i s))))
+-- The enum's case is found again from what it says.
+unsaid : Said → Solved
+unsaid (labelled k) = Labelled k
+unsaid (refused k i) = cond (eqb k 10) BadTable (cond (eqb k 11) NoRoom (NoLabelling i))
+
+said-unsaid : (a : Solved) → unsaid (said a) ≡ a
+unfolding unsaid
+said-unsaid (Labelled k) = refl
+said-unsaid BadTable = refl
+said-unsaid NoRoom = refl
+said-unsaid (NoLabelling p) = refl
+
+-- Different cases say different things.
+pub said-injective : (a b : Solved) → said a ≡ said b → a ≡ b
+said-injective a b e = sym (said-unsaid a) ∙ ap unsaid e ∙ said-unsaid b
+
+module _ {t : List ℕ} {m n : ℕ} {before : Buffers} where
+  written-same : {k j : ℕ} {a b : Buffers} → WritesLabels t m n k before a → WritesLabels t m n j before b → a ≡ b
+  written-same {a = a} {b = b} x y =
+      ap₂ held
+      (kept-same (x .levels) (y .levels) (λ i s. ap (λ (c : Class). c .level) (labels i s)))
+      (kept-same (x .marks) (y .marks) (λ i s. ap (λ (c : Class). c .marks) (labels i s)))
     where
       labels : (i : ℕ) → i < n → labelsOf a i ≡ labelsOf b i
       labels = wanted-unique (bookOf t m n) (table-inside (x .accepted)) (x .wanted) (y .wanted)
@@ -35,20 +56,26 @@ module _ (t : List ℕ) (m n : ℕ) (before : Buffers) where
   wanted-not-refused : {k p : ℕ} {a b : Buffers} → WritesLabels t m n k before a → RefusesBook t m n p before b → ⊥
   wanted-not-refused x y = refused-unlabelled (bookOf t m n) (table-inside (x .accepted)) (y .unlabelled) (x .wanted .labelling)
 
-  pub solve-unique : (x y : Solved) (a b : Buffers) → SolveSays t m n before x a → SolveSays t m n before y b → (x ≡ y) × (a ≡ b)
-  solve-unique (Labelled k) (Labelled j) a b x y = labelled-same x y
-  solve-unique (Labelled k) BadTable a b x y = absurd (y .bad (x .accepted))
-  solve-unique (Labelled k) NoRoom a b x y = absurd (y .short (x .room))
-  solve-unique (Labelled k) (NoLabelling p) a b x y = absurd (wanted-not-refused x y)
-  solve-unique BadTable (Labelled j) a b x y = absurd (x .bad (y .accepted))
-  solve-unique BadTable BadTable a b x y = (refl, x .untouched ∙ sym (y .untouched))
-  solve-unique BadTable NoRoom a b x y = absurd (x .bad (y .accepted))
-  solve-unique BadTable (NoLabelling p) a b x y = absurd (x .bad (y .accepted))
-  solve-unique NoRoom (Labelled j) a b x y = absurd (x .short (y .room))
-  solve-unique NoRoom BadTable a b x y = absurd (y .bad (x .accepted))
-  solve-unique NoRoom NoRoom a b x y = (refl, x .untouched ∙ sym (y .untouched))
-  solve-unique NoRoom (NoLabelling p) a b x y = absurd (x .short (y .room))
-  solve-unique (NoLabelling q) (Labelled j) a b x y = absurd (wanted-not-refused y x)
-  solve-unique (NoLabelling q) BadTable a b x y = absurd (y .bad (x .accepted))
-  solve-unique (NoLabelling q) NoRoom a b x y = absurd (y .short (x .room))
-  solve-unique (NoLabelling q) (NoLabelling p) a b x y = (ap NoLabelling (refused-unique (bookOf t m n) (table-inside (x .accepted)) (x .unlabelled) (y .unlabelled)), x .untouched ∙ sym (y .untouched))
+  -- Of any table and buffers only one thing is said, and the buffers have one content.
+  pub says-unique : {x y : Said} {a b : Buffers} → SolveSays t m n before x a → SolveSays t m n before y b → (x ≡ y) × (a ≡ b)
+  says-unique (bad-table x) (bad-table y) = (refl, x .untouched ∙ sym (y .untouched))
+  says-unique (bad-table x) (no-room y) = absurd (x .bad (y .accepted))
+  says-unique (bad-table x) (no-labelling y) = absurd (x .bad (y .accepted))
+  says-unique (bad-table x) (writes-labels y) = absurd (x .bad (y .accepted))
+  says-unique (no-room x) (bad-table y) = absurd (y .bad (x .accepted))
+  says-unique (no-room x) (no-room y) = (refl, x .untouched ∙ sym (y .untouched))
+  says-unique (no-room x) (no-labelling y) = absurd (x .short (y .room))
+  says-unique (no-room x) (writes-labels y) = absurd (x .short (y .room))
+  says-unique (no-labelling x) (bad-table y) = absurd (y .bad (x .accepted))
+  says-unique (no-labelling x) (no-room y) = absurd (y .short (x .room))
+  says-unique (no-labelling x) (no-labelling y) =
+      (ap (refused 9) (refused-unique (bookOf t m n) (table-inside (x .accepted)) (x .unlabelled) (y .unlabelled)), x .untouched ∙ sym (y .untouched))
+  says-unique (no-labelling x) (writes-labels y) = absurd (wanted-not-refused y x)
+  says-unique (writes-labels x) (bad-table y) = absurd (y .bad (x .accepted))
+  says-unique (writes-labels x) (no-room y) = absurd (y .short (x .room))
+  says-unique (writes-labels x) (no-labelling y) = absurd (wanted-not-refused x y)
+  says-unique (writes-labels x) (writes-labels y) = (ap labelled (x .count ∙ sym (y .count)), written-same x y)
+
+  -- Any two results that solving allows are equal.
+  pub solve-unique : {x y : Solved} {a b : Buffers} → SolveSays t m n before (said x) a → SolveSays t m n before (said y) b → (x ≡ y) × (a ≡ b)
+  solve-unique {x} {y} p q = (said-injective x y (says-unique p q .0), says-unique p q .1)

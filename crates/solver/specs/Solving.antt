@@ -14,11 +14,12 @@ use Rattle.rules.specs.Accepted.{TableAccepted}
 use Rattle.solver.specs.declared.Solved.{Solved}
 use Rattle.solver.specs.declared.Solved.the-variants.{Labelled, BadTable, NoRoom, NoLabelling}
 
--- What document 01 calls an answer: the count of labels, or a refusal's number and place.
+-- What an answer says by document 01: the count of labels that were written, or a refusal with its number and its place.
 pub data Said : Type 0 where
   labelled : ℕ → Said
   refused : ℕ → ℕ → Said
 
+-- 10 BAD_TABLE at place 0, 11 NO_ROOM at place 0, 9 NO_LABELLING at the part.
 abbrev pub said : Solved → Said
 said (Labelled k) = labelled k
 said BadTable = refused 10 0
@@ -70,9 +71,9 @@ pub record RefusesBook (t : List ℕ) (m n p : ℕ) (before after : Buffers) : T
   pub unlabelled : Refused classParts (bookOf t m n) p
   pub untouched : after ≡ before
 
--- Solving: 10, 11, 9.
-abbrev pub SolveSays : List ℕ → ℕ → ℕ → Buffers → Solved → Buffers → Type 0
-SolveSays t m n before (Labelled k) after = WritesLabels t m n k before after
-SolveSays t m n before BadTable after = RefusesTable t m n before after
-SolveSays t m n before NoRoom after = RefusesRoom t m n before after
-SolveSays t m n before (NoLabelling p) after = RefusesBook t m n p before after
+-- "Solving: 10, 11, 9", with the number and the place of each refusal, and what the buffers then hold.
+pub data SolveSays (t : List ℕ) (m n : ℕ) (before : Buffers) : Said → Buffers → Type 0 where
+  bad-table : {after : Buffers} → RefusesTable t m n before after → SolveSays t m n before (refused 10 0) after
+  no-room : {after : Buffers} → RefusesRoom t m n before after → SolveSays t m n before (refused 11 0) after
+  no-labelling : {p : ℕ} {after : Buffers} → RefusesBook t m n p before after → SolveSays t m n before (refused 9 p) after
+  writes-labels : {k : ℕ} {after : Buffers} → WritesLabels t m n k before after → SolveSays t m n before (labelled k) after

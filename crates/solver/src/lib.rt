@@ -4,7 +4,7 @@ use label::Outcome;
 use label::label;
 use lower::copy;
 use rules::rules_ok;
-ghost use Rattle.solver.specs.Solving.{held, SolveSays};
+ghost use Rattle.solver.specs.Solving.{held, said, SolveSays};
 
 mod floors;
 mod label;
@@ -23,7 +23,7 @@ pub enum Solved {
 // accepted, buffers too short for the labels, and a book without a labelling, with its lowest part that has none. A refusal
 // leaves both buffers untouched; a success writes n labels from the front and leaves the rest.
 pub fn solve(rules: &[u64], m: usize, n: usize, levels: &mut [u64], marks: &mut [u64]) -> Solved
-    ensures { λ r. ⌜ SolveSays (now (rules .entry)) m n (held (now (levels .entry)) (now (marks .entry))) r (held (now (levels .exit)) (now (marks .exit))) ⌝ }
+    ensures { λ r. ⌜ SolveSays (now (rules .entry)) m n (held (now (levels .entry)) (now (marks .entry))) (said r) (held (now (levels .exit)) (now (marks .exit))) ⌝ }
 {
     if !rules_ok(rules, m, n) {
         return Solved::BadTable;

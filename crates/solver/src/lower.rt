@@ -105,9 +105,9 @@ pub(crate) fn lower_all(rules: &[u64], m: usize, n: usize, levels: &mut [u64], m
     requires { ⌜ Ready (now rules) m n (held (now levels) (now marks)) ⌝ }
     ensures { λ _. ⌜ Lowers (now (rules .entry)) m n 0 n (held (now (levels .entry)) (now (marks .entry))) (held (now (levels .exit)) (now (marks .exit))) ⌝ }
 {
-    let mut i: usize = 0;
-    while i < n {
-        lower_item(rules, m, n, i, levels, marks);
-        i += 1;
+    let mut item: usize = 0;
+    while item < n {
+        lower_item(rules, m, n, item, levels, marks);
+        item += 1;
     }
 }

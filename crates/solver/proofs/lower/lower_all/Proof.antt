@@ -10,11 +10,11 @@ use Rattle.solver.proofs.lower.lower_all.Statement.{statement}
 use Rattle.solver.proofs.lower.lower_all.Tie as tie
 
 abbrev Inv-loop : tie.InvT-loop
-Inv-loop rules m n levels₀ marks₀ i₀ levels marks i =
-    Lowers rules m n 0 i (held levels₀ marks₀) (held levels marks) × SameSize (held levels₀ marks₀) (held levels marks) × (i ≤ n)
+Inv-loop rules m n levels₀ marks₀ item₀ levels marks item =
+    Lowers rules m n 0 item (held levels₀ marks₀) (held levels marks) × SameSize (held levels₀ marks₀) (held levels marks) × (item ≤ n)
 
 abbrev μ-loop : tie.MeasureT-loop
-μ-loop rules m n levels₀ marks₀ i₀ levels marks i = n - i
+μ-loop rules m n levels₀ marks₀ item₀ levels marks item = n - item
 
 loop-holds : tie.Need-loop-holds Inv-loop μ-loop
 loop-holds c = (lowers-none, same-size _, omega arith)
@@ -22,8 +22,8 @@ loop-holds c = (lowers-none, same-size _, omega arith)
 lower-item-requires : tie.Need-lower-item-requires Inv-loop μ-loop
 lower-item-requires c κs = (ready-kept (c .before .before .before .before .before .before .before .pre) (c .before .before .before .loop .inv .1), c .before .before .loop-test .taken)
 
-add-i : tie.Need-add-i Inv-loop μ-loop
-add-i c = search needs
+add-item : tie.Need-add-item Inv-loop μ-loop
+add-item c = search needs
 
 loop-less : tie.Need-loop-less Inv-loop μ-loop
 loop-less c = search needs
@@ -48,7 +48,7 @@ lower-all-spec =
     μ-loop
     loop-holds
     lower-item-requires
-    add-i
+    add-item
     loop-less
     loop-again
     same-length
