@@ -37,13 +37,13 @@ slice-aggregate-copy : tie.Need-slice-aggregate-copy
 slice-aggregate-copy c = search needs
 
 copy-requires : tie.Need-copy-requires
-copy-requires c κs = (omega (arith, c .before .before .before .before .before .before .label .kept .1 .1 .1 .0, (told-yes (c .before .before .before .before .before .before .before .before .before .before .before .before .rules-ok .ensures) (c .before .before .before .before .before .before .before .before .before .before .before .if1 .left)) .accepted .items), c .before .before .before .before .before .before .before .before .before .before .if2 .left)
+copy-requires c κs = (omega (arith, c .before .before .before .before .before .before .label .kept .1 .1 .1 .0, (told-yes (c .before .before .before .before .before .before .before .before .before .before .before .before .rules-ok .ensures) (c .before .before .before .before .before .before .before .before .before .before .before .if1 .left)) .accepted .items), omega (arith, c .before .before .before .before .before .before .before .before .before .before .if2 .left))
 
 slice-aggregate-copy-2 : tie.Need-slice-aggregate-copy-2
 slice-aggregate-copy-2 c = search needs
 
 copy-requires-2 : tie.Need-copy-requires-2
-copy-requires-2 c κs = (omega (arith, c .before .before .before .before .before .before .before .before .before .before .before .label .kept .1 .1 .1 .1 .0, (told-yes (c .before .before .before .before .before .before .before .before .before .before .before .before .before .before .before .before .before .rules-ok .ensures) (c .before .before .before .before .before .before .before .before .before .before .before .before .before .before .before .before .if1 .left)) .accepted .items), c .before .before .before .before .before .before .before .before .before .before .before .before .before .before .if3 .left)
+copy-requires-2 c κs = (omega (arith, c .before .before .before .before .before .before .before .before .before .before .before .label .kept .1 .1 .1 .1 .0, (told-yes (c .before .before .before .before .before .before .before .before .before .before .before .before .before .before .before .before .before .rules-ok .ensures) (c .before .before .before .before .before .before .before .before .before .before .before .before .before .before .before .before .if1 .left)) .accepted .items), omega (arith, c .before .before .before .before .before .before .before .before .before .before .before .before .before .before .if3 .left))
 
 returns-4 : tie.Need-returns-4
 returns-4 c = says-without _ _ _ _ (told-yes (c .before .before .before .before .before .before .before .before .before .before .before .rules-ok .ensures) (c .before .before .before .before .before .before .before .before .before .before .if1 .left)) (record { levels = c .before .before .before .before .before .before .before .before .before .if2 .left; marks = c .before .before .before .before .before .before .before .before .if3 .left }) _ _ _ _ (c .before .outcome .given .1) (highest-start _ ((told-yes (c .before .before .before .before .before .before .before .before .before .before .before .rules-ok .ensures) (c .before .before .before .before .before .before .before .before .before .before .if1 .left)) .accepted .items)) (c .before .before .before .before .before .label .ensures)
