@@ -1,0 +1,56 @@
+-- `sizes::caps` meets its contract. Assumes nothing.
+use mathlib.Core.Path.{_≡_}
+use Prim.Native.Nat.{_≤_, _-_}
+use lib.ListN.{length}
+use borrow.Author.Needs.{needs}
+use Rattle.edges.proofs.sizes.caps.Statement.{statement}
+use Rattle.edges.proofs.sizes.caps.Tie as tie
+
+abbrev Inv-loop : tie.InvT-loop
+Inv-loop rules₀ i₀ rules i = (i ≤ 8) × (length rules ≡ length rules₀)
+
+abbrev μ-loop : tie.MeasureT-loop
+μ-loop rules₀ i₀ rules i = 8 - i
+
+loop-holds : tie.Need-loop-holds Inv-loop μ-loop
+loop-holds c = search needs
+
+shl-cap : tie.Need-shl-cap Inv-loop μ-loop
+shl-cap c = search needs
+
+cap-requires : tie.Need-cap-requires Inv-loop μ-loop
+cap-requires c κs = search needs
+
+put-requires : tie.Need-put-requires Inv-loop μ-loop
+put-requires c κs = search needs
+
+add-i : tie.Need-add-i Inv-loop μ-loop
+add-i c = search needs
+
+loop-less : tie.Need-loop-less Inv-loop μ-loop
+loop-less c = search needs
+
+loop-again : tie.Need-loop-again Inv-loop μ-loop
+loop-again c = search needs
+
+same-length : tie.Need-same-length Inv-loop μ-loop
+same-length c = search needs
+
+returns : tie.Need-returns Inv-loop μ-loop
+returns c = search needs
+
+pub caps-spec : {M : Type 1} → statement M
+caps-spec =
+    tie.close
+    (tie.spec
+    Inv-loop
+    μ-loop
+    loop-holds
+    shl-cap
+    cap-requires
+    put-requires
+    add-i
+    loop-less
+    loop-again
+    same-length
+    returns)
