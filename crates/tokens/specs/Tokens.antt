@@ -1,0 +1,60 @@
+-- The tokens of a line, as they stand at the front of a text, each with its length; and the text of each.
+-- Assumes nothing.
+use mathlib.Core.Bool.{Bool, cond, _&&_}
+use mathlib.Core.List.{List, _∷_, _++_}
+use Prim.Native.Nat.{ℕ, _+_}
+use lib.Dec.{ltb, eqb}
+use lib.ListN.{take, drop}
+use Rattle.classes.specs.Class.{classOf}
+use Rattle.classes.specs.declared.Class.{Class}
+use Rattle.items.specs.Names.{nameRoom, nameByte}
+use Rattle.tokens.specs.Bytes.{byteAt, decimalByte, hexByte, runLen}
+use Rattle.tokens.specs.Numbers.{valueOf, digitsOf, decimalOf}
+use Rattle.tokens.specs.declared.read.ReadName.{ReadName}
+use Rattle.tokens.specs.declared.read.ReadCount.{ReadCount}
+use Rattle.tokens.specs.declared.read.ReadClass.{ReadClass}
+
+-- "A NAME is 1 to 16 bytes of a-z, 0-9 and hyphen." The whole run of such bytes is the name.
+unfoldable pub nameOfRun : ℕ → ReadName
+nameOfRun n = cond (ltb n 1) ReadName.Bad (cond (ltb nameRoom n) ReadName.Bad (ReadName.Found n))
+
+abbrev pub nameAt : List ℕ → ReadName
+nameAt l = nameOfRun (runLen nameByte l)
+
+-- "no leading zero (0 itself allowed)": of n digits, more than one, the first is 0.
+unfoldable pub leadingZero : List ℕ → ℕ → Bool
+leadingZero l n = ltb 1 n && eqb (byteAt l) 48
+
+-- 1 to `most` digits with no leading zero. The whole run of digits is the number.
+unfoldable pub decimalOfRun : ℕ → List ℕ → ℕ → ReadCount
+decimalOfRun most l n =
+    cond (ltb n 1) ReadCount.Bad
+    (cond (ltb most n) ReadCount.Bad (cond (leadingZero l n) ReadCount.Bad (ReadCount.Found (valueOf 10 (take n l)) n)))
+
+abbrev pub decimalAt : ℕ → List ℕ → ReadCount
+decimalAt most l = decimalOfRun most l (runLen decimalByte l)
+
+-- "COUNT is 1 to 5 digits with no leading zero (0 itself allowed)."
+abbrev pub countAt : List ℕ → ReadCount
+countAt l = decimalAt 5 l
+
+abbrev pub countText : ℕ → List ℕ
+countText n = decimalOf n
+
+-- "In text a class is the level in decimal with no leading zero, a slash, and exactly sixteen lower-case hex digits; mark k is the bit worth
+-- 2^k." The level is at most 15, so it has at most 2 digits, and the whole run of hex digits is the marks.
+unfoldable pub classAfter : List ℕ → ReadCount → ReadClass
+classAfter l ReadCount.Bad = ReadClass.Bad
+classAfter l (ReadCount.Found v n) =
+    cond (ltb 15 v) ReadClass.Bad
+    (cond (eqb (byteAt (drop n l)) 47)
+    (cond (eqb (runLen hexByte (drop (n + 1) l)) 16)
+    (ReadClass.Found (classOf v (valueOf 16 (take 16 (drop (n + 1) l)))) (n + 17))
+    ReadClass.Bad)
+    ReadClass.Bad)
+
+abbrev pub classAt : List ℕ → ReadClass
+classAt l = classAfter l (decimalAt 2 l)
+
+abbrev pub classText : Class → List ℕ
+classText c = decimalOf (c .level) ++ 47 ∷ digitsOf 16 16 (c .marks)
