@@ -8,6 +8,7 @@ use Rattle.classes.specs.declared.Class.{Class}
 use Rattle.labelling.specs.Rules.{Book}
 use Rattle.labelling.specs.Labelling.{Labelling}
 use Rattle.labelling.specs.Classes.{classes}
+use Rattle.labels.specs.Labels.{Room}
 use Rattle.rules.specs.declared.Rule.{Rule}
 use Rattle.rules.specs.Record.{meaningOf, labelsIn}
 use Rattle.rules.specs.Table.{recordAt, bookOf}
@@ -15,7 +16,7 @@ use Rattle.rules.specs.Accepted.{TableAccepted}
 use Rattle.checker.specs.declared.Checked.{Checked}
 use Rattle.checker.specs.declared.Checked.the-variants.{Met}
 use Rattle.checker.specs.Answer.{met, said}
-use Rattle.checker.specs.Checking.{Room, AllMet, CheckSays, all-met}
+use Rattle.checker.specs.Checking.{AllMet, CheckSays, all-met}
 use Rattle.checker.proofs.Unique.{check-unique}
 
 -- The book of m rules, given by number, over n items.

@@ -1,6 +1,5 @@
--- Why it is true: searches for the first that fails, one rule of each kind, one law for each answer of checking, that the answer is the only one,
+-- Why it is true: one rule of each kind, one law for each answer of checking, that the answer is the only one,
 -- and that `Met` is answered exactly of a labelling.
-pub mod First
 pub mod Meets
 pub mod Says
 pub mod Unique

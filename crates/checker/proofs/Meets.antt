@@ -1,11 +1,9 @@
--- Whether one rule is met, by its kind: what covering tells of two classes it tells of the rule. And whether one level is in range.
+-- Whether one rule is met, by its kind: what covering tells of two classes it tells of the rule.
 -- Assumes nothing.
 use mathlib.Core.Path.{_≡_}
 use mathlib.Core.Bool.{Bool, true, false, not}
 use mathlib.Core.List.{List}
-use Prim.Native.Nat.{ℕ, _≤_, _<_}
-use native.Mathlib.Omega.{arith}
-use lib.ListN.{getD}
+use Prim.Native.Nat.{ℕ}
 use Rattle.classes.specs.Class.{Covers}
 use Rattle.classes.specs.Tells.{Tells}
 use Rattle.classes.specs.declared.Class.{Class}
@@ -15,7 +13,7 @@ use Rattle.labelling.specs.Classes.{classes}
 use Rattle.rules.specs.declared.Rule.{Rule}
 use Rattle.rules.specs.Record.{leftOf, leftItem, meaningOf, labelsIn}
 use Rattle.rules.proofs.Meaning.{meaning-cap, meaning-floor, meaning-follow}
-use Rattle.checker.specs.Checking.{LevelInRange, RuleMet}
+use Rattle.checker.specs.Checking.{RuleMet}
 
 module _ (x : Rule) (f : ℕ → Class) where
   pub cap-met : {label : Class} {b : Bool} → x .kind ≡ 0 → label ≡ f (leftItem x 0) → Tells (Covers (x .class) label) b → Tells (Met classes (meaningOf x) f) b
@@ -38,10 +36,3 @@ module _ {at : ℕ → Rule} {levels marks : List ℕ} {r : ℕ} {x : Rule} {b :
 
   pub rule-unmet : x ≡ at r → Tells (Met classes (meaningOf x) (labelsIn levels marks)) b → not b ≡ true → RuleMet at levels marks r → ⊥
   rule-unmet here t e p = told-no t e (rw (← here) at (p .meets))
-
--- The level of one label.
-pub level-in-range : {levels : List ℕ} {i : ℕ} → getD levels i 0 ≤ 15 → LevelInRange levels i
-level-in-range s = record { most = s }
-
-pub level-over : {levels : List ℕ} {i : ℕ} → 15 < getD levels i 0 → LevelInRange levels i → ⊥
-level-over s p = omega (arith, p .most)

@@ -1,26 +1,13 @@
 -- Checking, one law for each answer that the code can give.
 -- Assumes nothing.
-use mathlib.Core.Bool.{false}
 use mathlib.Core.List.{List}
 use Prim.Native.Nat.{ℕ, _≤_, _<_}
-use native.Mathlib.Omega.{arith}
-use lib.Dec.{leb}
-use lib.ListN.{length}
-use Rattle.classes.specs.Tells.{Tells}
-use Rattle.classes.proofs.Tells.{tells-no, tells-leb}
+use Rattle.labels.specs.First.{Sought}
+use Rattle.labels.specs.Labels.{LevelInRange, Room}
 use Rattle.rules.specs.declared.Rule.{Rule}
 use Rattle.checker.specs.declared.Checked.the-variants.{Met, Unmet, BadTable, NoRoom, BadLabel}
 use Rattle.checker.specs.Answer.{said}
-use Rattle.checker.specs.First.{Sought}
-use Rattle.checker.specs.Checking.{LevelInRange, RuleMet, Room, CheckSays, bad-table, no-room, bad-label, first-unmet, all-met}
-
--- Whether there is room.
-module _ (n : ℕ) (levels marks : List ℕ) where
-  pub few-levels : length levels < n → Tells (Room n levels marks) false
-  few-levels s = tells-no (λ p. omega (arith, p .forLevels))
-
-  pub enough-levels : n ≤ length levels → Tells (Room n levels marks) (leb n (length marks))
-  enough-levels s = tells-leb _ _ (λ k. record { forLevels = s; forMarks = k }) (λ p. p .forMarks)
+use Rattle.checker.specs.Checking.{RuleMet, CheckSays, bad-table, no-room, bad-label, first-unmet, all-met}
 
 -- What checking answers; `bad` and `sought` are what the searches for a bad label and for an unmet rule tell.
 module _ {Accepted : Type 0} {at : ℕ → Rule} {m n : ℕ} {levels marks : List ℕ} where

@@ -6,12 +6,12 @@ use mathlib.Core.Bool.{cond}
 use mathlib.Core.List.{List}
 use Prim.Native.Nat.{ℕ}
 use lib.Dec.{eqb}
+use Rattle.labels.proofs.First.{first-not-all, first-unique}
 use Rattle.rules.specs.declared.Rule.{Rule}
 use Rattle.checker.specs.declared.Checked.{Checked}
 use Rattle.checker.specs.declared.Checked.the-variants.{Met, Unmet, BadTable, NoRoom, BadLabel}
 use Rattle.checker.specs.Answer.{Said, met, unmet, refused, said}
 use Rattle.checker.specs.Checking.{CheckSays, bad-table, no-room, bad-label, first-unmet, all-met}
-use Rattle.checker.proofs.First.{first-not-all, first-unique}
 
 -- The enum's case is found again from what it says.
 unsaid : Said → Checked

@@ -2,27 +2,18 @@
 -- records have one definition.
 -- Assumes nothing.
 use mathlib.Core.List.{List}
-use Prim.Native.Nat.{ℕ, _≤_}
-use lib.ListN.{length, getD}
+use Prim.Native.Nat.{ℕ}
 use Rattle.labelling.specs.Rules as meant
 use Rattle.labelling.specs.Classes.{classes}
+use Rattle.labels.specs.First.{AllBelow, FirstFailing}
+use Rattle.labels.specs.Labels.{LevelInRange, Room}
 use Rattle.rules.specs.declared.Rule.{Rule}
 use Rattle.rules.specs.Record.{meaningOf, labelsIn}
 use Rattle.checker.specs.Answer.{Said, met, unmet, refused}
-use Rattle.checker.specs.First.{AllBelow, FirstFailing}
-
--- The level of item i is at most 15.
-pub record LevelInRange (levels : List ℕ) (i : ℕ) : Type 0 where
-  pub most : getD levels i 0 ≤ 15
 
 -- Rule r is met.
 pub record RuleMet (at : ℕ → Rule) (levels marks : List ℕ) (r : ℕ) : Type 0 where
   pub meets : meant.Met classes (meaningOf (at r)) (labelsIn levels marks)
-
--- The lent labels are not shorter than the n items.
-pub record Room (n : ℕ) (levels marks : List ℕ) : Type 0 where
-  pub forLevels : n ≤ length levels
-  pub forMarks : n ≤ length marks
 
 module _ (Accepted : Type 0) (at : ℕ → Rule) (m n : ℕ) (levels marks : List ℕ) where
   -- The lent labels are shorter than the items.

@@ -1,20 +1,20 @@
 // Checking: whether labels meet one rule, and the first rule of a table that they do not meet.
 //
 // Labels are lent as two slices, levels and marks. Nothing is written, and nothing is required.
+use labels::first_bad;
+use labels::has_room;
 use rules::CAP;
 use rules::FLOOR;
 use rules::Rule;
-ghost use Prim.Native.Nat.{_≤_};
-ghost use lib.ListN.{length};
 ghost use Rattle.classes.specs.Tells.{Tells};
 ghost use Rattle.labelling.specs.Rules.{Met};
 ghost use Rattle.labelling.specs.Classes.{classes};
+ghost use Rattle.labels.specs.First.{Sought};
 ghost use Rattle.rules.specs.Record.{meaningOf, labelsIn};
 ghost use Rattle.rules.specs.Table.{recordAt};
 ghost use Rattle.rules.specs.Accepted.{TableAccepted};
 ghost use Rattle.checker.specs.Answer.{said};
-ghost use Rattle.checker.specs.First.{Sought};
-ghost use Rattle.checker.specs.Checking.{LevelInRange, RuleMet, Room, CheckSays};
+ghost use Rattle.checker.specs.Checking.{RuleMet, CheckSays};
 
 // What checking answers: every rule is met, or the number of the first one that is not, from 0 in table order; or why it refuses, for a bad
 // label with the number of the item.
@@ -61,31 +61,6 @@ pub fn check(rules: &[u64], m: usize, n: usize, levels: &[u64], marks: &[u64]) -
         return Checked::Unmet(unmet);
     }
     Checked::Met
-}
-
-// Whether there is a label for each of n items.
-fn has_room(levels: &[u64], marks: &[u64], n: usize) -> bool
-    ensures { λ r. ⌜ Tells (Room n (now (levels .entry)) (now (marks .entry))) r ⌝ }
-{
-    if levels.len() < n {
-        return false;
-    }
-    n <= marks.len()
-}
-
-// The first of n levels that is over 15, and n where none is.
-fn first_bad(levels: &[u64], n: usize) -> usize
-    requires { ⌜ n ≤ length (now levels) ⌝ }
-    ensures { λ i. ⌜ Sought (LevelInRange (now (levels .entry))) n i ⌝ }
-{
-    let mut i: usize = 0;
-    while i < n {
-        if 15 < levels[i] {
-            return i;
-        }
-        i += 1;
-    }
-    n
 }
 
 // The first of the table's m rules that the labels do not meet, and m where they meet each.

@@ -19,7 +19,7 @@ returns-2 : tie.Need-returns-2
 returns-2 c = says-no-room (told-yes (c .before .before .before .rules-ok .ensures) (c .before .before .if1 .left)) (told-no (c .before .has-room .ensures) (c .if2 .taken))
 
 first-bad-requires : tie.Need-first-bad-requires
-first-bad-requires c κs = told-yes (c .before .has-room .ensures) (c .if2 .left) .forLevels
+first-bad-requires c κs = search needs
 
 returns-3 : tie.Need-returns-3
 returns-3 c = says-bad-label (told-yes (c .before .before .before .before .before .rules-ok .ensures) (c .before .before .before .before .if1 .left)) (told-yes (c .before .before .before .has-room .ensures) (c .before .before .if2 .left)) (c .before .first-bad .ensures) (c .if3 .taken)

@@ -3,9 +3,9 @@
 use Prim.Native.Nat.{_≤_, _-_}
 use native.Mathlib.Omega.{arith}
 use Rattle.rules.specs.Table.{recordAt}
-use Rattle.checker.specs.First.{AllBelow}
+use Rattle.labels.specs.First.{AllBelow}
 use Rattle.checker.specs.Checking.{RuleMet}
-use Rattle.checker.proofs.First.{all-none, all-more, sought-here, sought-nowhere}
+use Rattle.labels.proofs.First.{all-none, all-more, sought-here, sought-nowhere}
 use Rattle.checker.proofs.Meets.{rule-met, rule-unmet}
 use borrow.Author.Needs.{needs}
 use Rattle.checker.proofs.first_unmet.Statement.{statement}

@@ -1,9 +1,8 @@
--- `checker::has_room` meets its contract: one law for each answer.
--- Assumes nothing.
-use Rattle.checker.proofs.Says.{few-levels, enough-levels}
+-- `has_room` meets its contract: one law for each answer. Assumes nothing.
 use borrow.Author.Needs.{needs}
-use Rattle.checker.proofs.has_room.Statement.{statement}
-use Rattle.checker.proofs.has_room.Tie as tie
+use Rattle.labels.proofs.Tested.{few-levels, enough-levels}
+use Rattle.labels.proofs.has_room.Statement.{statement}
+use Rattle.labels.proofs.has_room.Tie as tie
 
 returns : tie.Need-returns
 returns c = search (few-levels, needs)

@@ -1,14 +1,14 @@
--- `checker::first_bad` meets its contract. The loop's invariant: every level passed is in range.
+-- `first_bad` meets its contract. The loop's invariant: every level passed is in range. The measure is what is left of the levels.
 -- Assumes nothing.
 use Prim.Native.Nat.{_≤_, _-_}
 use native.Mathlib.Omega.{arith}
-use Rattle.checker.specs.First.{AllBelow}
-use Rattle.checker.specs.Checking.{LevelInRange}
-use Rattle.checker.proofs.First.{all-none, all-more, sought-here, sought-nowhere}
-use Rattle.checker.proofs.Meets.{level-in-range, level-over}
 use borrow.Author.Needs.{needs}
-use Rattle.checker.proofs.first_bad.Statement.{statement}
-use Rattle.checker.proofs.first_bad.Tie as tie
+use Rattle.labels.specs.First.{AllBelow}
+use Rattle.labels.specs.Labels.{LevelInRange}
+use Rattle.labels.proofs.First.{all-none, all-more, sought-here, sought-nowhere}
+use Rattle.labels.proofs.Tested.{level-in-range, level-over}
+use Rattle.labels.proofs.first_bad.Statement.{statement}
+use Rattle.labels.proofs.first_bad.Tie as tie
 
 abbrev Inv-loop : tie.InvT-loop
 Inv-loop levels n i₀ i = AllBelow (LevelInRange levels) i × (i ≤ n)
@@ -19,11 +19,8 @@ abbrev μ-loop : tie.MeasureT-loop
 loop-holds : tie.Need-loop-holds Inv-loop μ-loop
 loop-holds c = (all-none, omega arith)
 
-mul-if1 : tie.Need-mul-if1 Inv-loop μ-loop
-mul-if1 c = search needs
-
-shared-slice-read-if1 : tie.Need-shared-slice-read-if1 Inv-loop μ-loop
-shared-slice-read-if1 c = search needs
+level-at-requires : tie.Need-level-at-requires Inv-loop μ-loop
+level-at-requires c κs = search needs
 
 returns : tie.Need-returns Inv-loop μ-loop
 returns c = search (sought-here, level-over, needs)
@@ -35,7 +32,7 @@ loop-less : tie.Need-loop-less Inv-loop μ-loop
 loop-less c = search needs
 
 loop-again : tie.Need-loop-again Inv-loop μ-loop
-loop-again c = (all-more (c .before .before .before .loop .inv .0) (level-in-range (c .if1 .left)), omega arith)
+loop-again c = (all-more (c .before .before .before .loop .inv .0) (level-in-range (c .before .level-at .ensures) (c .if1 .left)), omega arith)
 
 returns-2 : tie.Need-returns-2 Inv-loop μ-loop
 returns-2 c = search (sought-nowhere, needs)
@@ -47,8 +44,7 @@ first-bad-spec =
     Inv-loop
     μ-loop
     loop-holds
-    mul-if1
-    shared-slice-read-if1
+    level-at-requires
     returns
     add-i
     loop-less

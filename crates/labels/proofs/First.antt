@@ -6,7 +6,7 @@ use native.Mathlib.Decide.{decLt}
 use native.Mathlib.Nat.{not-suc-le-zero}
 use native.Mathlib.Omega.{arith}
 use borrow.Author.Count.{below-more}
-use Rattle.checker.specs.First.{AllBelow, FirstFailing, Sought}
+use Rattle.labels.specs.First.{AllBelow, FirstFailing, Sought}
 
 pub all-none : {P : ℕ → Type 0} → AllBelow P 0
 all-none = record { each = λ j s. absurd (not-suc-le-zero s) }
