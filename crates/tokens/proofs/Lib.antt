@@ -8,5 +8,5 @@ pub mod KeyTexts
 pub mod Over
 mod Loops
 mod Answers
-mod Puts
+pub mod Puts
 mod Table

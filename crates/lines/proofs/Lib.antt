@@ -1,0 +1,3 @@
+-- Why it is true, and what callers cite: the left side of a rule, what each function of a value and of a line answers.
+pub mod Sides
+pub mod Told

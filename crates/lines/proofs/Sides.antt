@@ -1,0 +1,117 @@
+-- The left side of a rule, one name after the other: the three things that a name can be followed by. They rest on induction over a bound on
+-- the text's length.
+-- Assumes nothing.
+use mathlib.Core.Path.{_≡_, refl, ap, _∙_, subst}
+use mathlib.Core.Bool.{Bool, true, false, cond}
+use mathlib.Core.List.{List, [], _∷_}
+use Prim.Native.Nat.{ℕ, zero, suc, _+_, _≤_, _<_}
+use native.Mathlib.Nat.{add-assoc, le-refl}
+use native.Mathlib.Omega.{arith}
+use lib.Dec.{eqb}
+use lib.ListN.{length, take, drop, length-drop}
+use lib.Seq.{length-take-le}
+use borrow.Author.Tests.{eq-eqb, ne-eqb, eqb-true}
+use Rattle.items.proofs.Names.{name-spelled}
+use Rattle.tokens.specs.Bytes.{byteAt, runLen}
+use Rattle.tokens.specs.Tokens.{nameOfRun, nameAt}
+use Rattle.tokens.specs.declared.read.ReadName.{ReadName}
+use Rattle.tokens.proofs.Places.{byte-inside}
+use Rattle.tokens.proofs.Tokens.{name-is-name}
+use Rattle.lines.specs.Left.{before, afterName, leftFrom, leftAt}
+use Rattle.lines.specs.declared.left.ReadLeft.{ReadLeft}
+
+pub before-before : (c k d n : ℕ) (x : ReadLeft) → before c k (before d n x) ≡ before (c + d) (k + n) x
+before-before c k d n ReadLeft.Bad = refl
+before-before c k d n (ReadLeft.Found e m) = rw (add-assoc c d e, add-assoc k n m)
+
+name-nil : nameAt [] ≡ ReadName.Bad
+unfolding nameOfRun runLen
+name-nil = refl
+
+-- The rest of the left side counts only where a plus sign follows the name.
+after-agree : (more other : ℕ → ReadLeft) (l : List ℕ) (x : ReadName) → ((n : ℕ) → n < length l → more (n + 1) ≡ other (n + 1))
+    → afterName more l x ≡ afterName other l x
+unfolding afterName
+after-agree more other l ReadName.Bad f = refl
+after-agree more other l (ReadName.Found n) f = plus (eqb (byteAt (drop n l)) 43) refl
+  where
+    plus : (b : Bool) → eqb (byteAt (drop n l)) 43 ≡ b
+        → cond b (before 1 (n + 1) (more (n + 1))) (ReadLeft.Found 1 n) ≡ cond b (before 1 (n + 1) (other (n + 1))) (ReadLeft.Found 1 n)
+    plus false e = refl
+    plus true e = ap (before 1 (n + 1)) (f n (byte-inside l n (omega (arith, eqb-true (byteAt (drop n l)) 43 e))))
+
+-- Any bound on the length gives the same left side.
+left-bound : (f g : ℕ) (l : List ℕ) → length l ≤ f → length l ≤ g → leftFrom f l ≡ leftFrom g l
+unfolding leftFrom afterName
+left-bound zero zero l h i = refl
+left-bound zero (suc g) [] h i = rw name-nil
+left-bound zero (suc g) (b ∷ l) h i = absurd (omega arith)
+left-bound (suc f) zero [] h i = rw name-nil
+left-bound (suc f) zero (b ∷ l) h i = absurd (omega arith)
+left-bound (suc f) (suc g) l h i =
+    after-agree (λ k. leftFrom f (drop k l)) (λ k. leftFrom g (drop k l)) l (nameAt l)
+    (λ n s. left-bound f g (drop (n + 1) l) (omega (arith, length-drop (n + 1) l)) (omega (arith, length-drop (n + 1) l)))
+
+left-step : (l : List ℕ) → leftAt l ≡ afterName (λ k. leftAt (drop k l)) l (nameAt l)
+unfolding leftFrom afterName
+left-step [] = rw name-nil
+left-step (b ∷ l) =
+    after-agree (λ k. leftFrom (length l) (drop k (b ∷ l))) (λ k. leftAt (drop k (b ∷ l))) (b ∷ l) (nameAt (b ∷ l))
+    (λ n s. left-bound (length l) (length (drop (n + 1) (b ∷ l))) (drop (n + 1) (b ∷ l)) (omega (arith, length-drop (n + 1) (b ∷ l))) (le-refl _))
+
+-- No name; the last name; and a name with a plus sign behind it.
+pub left-bad : (l : List ℕ) → nameAt l ≡ ReadName.Bad → leftAt l ≡ ReadLeft.Bad
+unfolding afterName
+left-bad l e = left-step l ∙ rw e
+
+module _ (l : List ℕ) (n : ℕ) (e : nameAt l ≡ ReadName.Found n) where
+  pub left-last : (byteAt (drop n l) ≡ 43 → ⊥) → leftAt l ≡ ReadLeft.Found 1 n
+  unfolding afterName
+  left-last f = left-step l ∙ rw (e, ne-eqb (byteAt (drop n l)) 43 f)
+
+  pub left-more : byteAt (drop n l) ≡ 43 → leftAt l ≡ before 1 (n + 1) (leftAt (drop (n + 1) l))
+  unfolding afterName
+  left-more f = left-step l ∙ rw (e, eq-eqb (byteAt (drop n l)) 43 f)
+
+-- What a left side of c names and n bytes says: it has a byte, and stands within the text.
+pub record LeftHere (l : List ℕ) (c n : ℕ) : Type 0 where
+  pub some : 1 ≤ n
+  pub few : c ≤ n
+  pub least : 1 ≤ c
+  pub within : n ≤ length l
+
+abbrev pub LeftSays : List ℕ → ReadLeft → Type 0
+LeftSays l ReadLeft.Bad = Unit
+LeftSays l (ReadLeft.Found c n) = LeftHere l c n
+
+pub name-some : (l : List ℕ) (n : ℕ) → nameAt l ≡ ReadName.Found n → 1 ≤ n
+name-some l n e =
+    let here = name-is-name l n e in
+    omega (arith, name-spelled (take n l) (here .name) .least, length-take-le n l (here .within))
+
+more-says : (l : List ℕ) (n : ℕ) (x : ReadLeft) → n < length l → LeftSays (drop (n + 1) l) x → LeftSays l (before 1 (n + 1) x)
+more-says l n ReadLeft.Bad h g = tt
+more-says l n (ReadLeft.Found c k) h g = record {
+  some = omega arith;
+  few = omega (arith, g .few);
+  least = omega arith;
+  within = omega (arith, g .within, length-drop (n + 1) l);
+}
+
+from-says : (f : ℕ) (l : List ℕ) → LeftSays l (leftFrom f l)
+unfolding leftFrom afterName
+from-says zero l = tt
+from-says (suc f) l = after (nameAt l) refl (λ n. from-says f (drop (n + 1) l))
+  where
+    after : (x : ReadName) → nameAt l ≡ x → ((n : ℕ) → LeftSays (drop (n + 1) l) (leftFrom f (drop (n + 1) l)))
+        → LeftSays l (afterName (λ k. leftFrom f (drop k l)) l x)
+    after ReadName.Bad e g = tt
+    after (ReadName.Found n) e g = plus (eqb (byteAt (drop n l)) 43) refl
+      where
+        plus : (b : Bool) → eqb (byteAt (drop n l)) 43 ≡ b
+            → LeftSays l (cond b (before 1 (n + 1) (leftFrom f (drop (n + 1) l))) (ReadLeft.Found 1 n))
+        plus true d = more-says l n (leftFrom f (drop (n + 1) l)) (byte-inside l n (omega (arith, eqb-true (byteAt (drop n l)) 43 d))) (g n)
+        plus false d = record { some = name-some l n e; few = name-some l n e; least = omega arith; within = name-is-name l n e .within }
+
+pub left-here : (l : List ℕ) (c n : ℕ) → leftAt l ≡ ReadLeft.Found c n → LeftHere l c n
+left-here l c n e = subst (LeftSays l) e (from-says (length l) l)

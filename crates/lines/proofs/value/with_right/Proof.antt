@@ -1,0 +1,54 @@
+-- `with_right` meets its contract. Assumes nothing.
+use borrow.Author.Needs.{needs}
+use Rattle.lines.proofs.Told.{right-no-colon, colon-next, right-bad, right-len, right-behind}
+use Rattle.lines.proofs.value.with_right.Statement.{statement}
+use Rattle.lines.proofs.value.with_right.Tie as tie
+
+add-colon : tie.Need-add-colon
+add-colon c = search needs
+
+byte-at-requires : tie.Need-byte-at-requires
+byte-at-requires c κs = search needs
+
+returns : tie.Need-returns
+returns c = search (right-no-colon, needs)
+
+add-read-name : tie.Need-add-read-name
+add-read-name c = search (colon-next, needs)
+
+read-name-requires : tie.Need-read-name-requires
+read-name-requires c κs = search needs
+
+enum-known-k : tie.Need-enum-known-k
+enum-known-k c = search needs
+
+enum-told : tie.Need-enum-told
+enum-told c = search needs
+
+returns-2 : tie.Need-returns-2
+returns-2 c = search (right-bad, needs)
+
+add-t10 : tie.Need-add-t10
+add-t10 c = search needs
+
+add-t12 : tie.Need-add-t12
+add-t12 c = search (right-len, needs)
+
+returns-3 : tie.Need-returns-3
+returns-3 c = search (right-behind, needs)
+
+pub with-right-spec : {M : Type 1} → statement M
+with-right-spec =
+    tie.close
+    (tie.spec
+    add-colon
+    byte-at-requires
+    returns
+    add-read-name
+    read-name-requires
+    enum-known-k
+    enum-told
+    returns-2
+    add-t10
+    add-t12
+    returns-3)

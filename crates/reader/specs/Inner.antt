@@ -1,0 +1,90 @@
+-- What the inner functions need and give: the state that counts and tables are, and the turn that an answer is.
+-- Assumes nothing.
+use mathlib.Core.Path.{_≡_}
+use mathlib.Core.Bool.{Bool, true}
+use mathlib.Core.List.{List}
+use Prim.Native.Nat.{ℕ, _*_, _≤_, _<_}
+use lib.ListN.{length, drop}
+use Rattle.items.specs.Names.{nameRoom}
+use Rattle.items.specs.Table.{mostItems}
+use Rattle.rules.specs.Table.{ruleWords}
+use Rattle.rules.specs.Accepted.{mostRules, mostLeft}
+use Rattle.tokens.specs.Writing.{over}
+use Rattle.tokens.specs.declared.keys.Key.{Key}
+use Rattle.lines.specs.Lines.{lineAt}
+use Rattle.lines.specs.declared.Line.{Line}
+use Rattle.lines.specs.declared.ReadLine.{ReadLine}
+use Rattle.refusals.specs.declared.Fault.{Fault}
+use Rattle.reader.specs.declared.ReadBook.{ReadBook}
+use Rattle.reader.specs.declared.line.Counts.{Counts}
+use Rattle.reader.specs.declared.line.Stepped.{Stepped}
+use Rattle.reader.specs.Names.{everyItem, numbersOf}
+use Rattle.reader.specs.Lines.{State, Result, Turn, on, stop, emptyNames, emptyWords, itemStep, endStep}
+use Rattle.reader.specs.Reading.{mostText}
+
+abbrev pub stateOf : Counts → List ℕ → List ℕ → State
+stateOf c names words = record { counts = c; names = names; words = words }
+
+abbrev pub turnOf : Stepped → List ℕ → List ℕ → Turn
+turnOf (Stepped.On c k) names words = on (stateOf c names words) k
+turnOf (Stepped.Stop a) names words = stop (record { answer = a; names = names; words = words })
+
+-- The text is not too long, so that lines can be counted, and the tables have their whole room.
+pub record Ready (l : List ℕ) (c : Counts) (names words : List ℕ) : Type 0 where
+  pub text : length l ≤ mostText
+  pub lines : c .lines ≤ mostText
+  pub names-room : length names ≡ mostItems * nameRoom
+  pub words-room : length words ≡ mostRules * ruleWords
+
+-- The text begins a book: the tables are all zero.
+pub record StartsEmpty (l names words : List ℕ) : Type 0 where
+  pub text : length l ≤ mostText
+  pub names-empty : names ≡ emptyNames
+  pub words-empty : words ≡ emptyWords
+
+abbrev pub resultIs : ReadBook → List ℕ → List ℕ → Result
+resultIs a names words = record { answer = a; names = names; words = words }
+
+abbrev pub refusedAt : ℕ → Fault → Stepped
+refusedAt line f = Stepped.Stop (ReadBook.Refused f line)
+
+-- The line stands at a place of a text that is not too long.
+pub record LineReady (l : List ℕ) (at : ℕ) (x : Line) (c : Counts) : Type 0 where
+  pub text : length l ≤ mostText
+  pub lines : c .lines ≤ mostText
+  pub here : lineAt (drop at l) ≡ ReadLine.Found x
+
+-- The same of an item's line, with the whole room of its table.
+pub record ItemReady (l : List ℕ) (at : ℕ) (x : Line) (c : Counts) (names : List ℕ) : Type 0 where
+  pub line : LineReady l at x c
+  pub item : x .key ≡ Key.Item
+  pub room : length names ≡ mostItems * nameRoom
+
+-- The same of a rule's line.
+pub record RuleReady (l : List ℕ) (at : ℕ) (x : Line) (c : Counts) (words : List ℕ) : Type 0 where
+  pub line : LineReady l at x c
+  pub room : length words ≡ mostRules * ruleWords
+
+-- There is room for the items of the left names, and places in the text can be counted.
+pub record LookReady (l : List ℕ) (at count : ℕ) (left : List ℕ) : Type 0 where
+  pub text : length l ≤ mostText
+  pub place : at ≤ mostText
+  pub few : count ≤ mostLeft
+  pub room : length left ≡ mostLeft
+
+-- Looking up c left names in a table of n items: whether each is one, and then their items at the front of the left places.
+pub record LooksUp (t : List ℕ) (n c : ℕ) (l left : List ℕ) (r : Bool) (left′ : List ℕ) : Type 0 where
+  pub told : r ≡ everyItem t n c l
+  pub items : r ≡ true → left′ ≡ over left 0 (numbersOf t n c l)
+
+-- There is room for rule r.
+pub record RuleRoom (r : ℕ) (words : List ℕ) : Type 0 where
+  pub rule : r < mostRules
+  pub room : length words ≡ mostRules * ruleWords
+
+-- An item's line and the end line leave the other tables as they are.
+pub record ItemStepped (c : Counts) (names l : List ℕ) (x : Line) (r : Stepped) (names′ : List ℕ) : Type 0 where
+  pub turn : (words : List ℕ) → turnOf r names′ words ≡ itemStep (stateOf c names words) l x
+
+pub record EndStepped (c : Counts) (l : List ℕ) (x : Line) (r : Stepped) : Type 0 where
+  pub turn : (names words : List ℕ) → turnOf r names words ≡ endStep (stateOf c names words) l x

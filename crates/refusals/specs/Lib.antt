@@ -1,0 +1,2 @@
+-- What the contracts of `refusals` cite: the number of each refusal.
+pub mod Numbers
