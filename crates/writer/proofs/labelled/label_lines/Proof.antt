@@ -1,0 +1,75 @@
+-- `label_lines` meets its contract. The loop's invariant: the form line and i label lines are put. The measure is what is left of the items.
+-- Assumes nothing.
+use mathlib.Core.Path.{_∙_}
+use Prim.Native.Nat.{_-_}
+use borrow.Author.Needs.{needs}
+use Rattle.writer.specs.Texts.{labelLine}
+use Rattle.writer.proofs.Growing.{GrownBy, grown-none, grown-more, grown-all}
+use Rattle.writer.proofs.labelled.label_lines.Statement.{statement}
+use Rattle.writer.proofs.labelled.label_lines.Tie as tie
+
+abbrev Inv-loop : tie.InvT-loop
+Inv-loop items n levels marks out₀ next₀ i₀ out next i = GrownBy (labelLine items levels marks) n out₀ next₀ i out next
+
+abbrev μ-loop : tie.MeasureT-loop
+μ-loop items n levels marks out₀ next₀ i₀ out next i = n - i
+
+form-line-requires : tie.Need-form-line-requires Inv-loop μ-loop
+form-line-requires c κs = search needs
+
+loop-holds : tie.Need-loop-holds Inv-loop μ-loop
+loop-holds c = grown-none _
+
+label-line-requires : tie.Need-label-line-requires Inv-loop μ-loop
+label-line-requires c κs =
+    c
+    .before
+    .before
+    .before
+    .before
+    .before
+    .before
+    .before
+    .before
+    .before
+    .before
+    .before
+    .pre
+    .names
+    _
+    (c .before .loop-test .taken)
+
+add-i : tie.Need-add-i Inv-loop μ-loop
+add-i c = search needs
+
+loop-less : tie.Need-loop-less Inv-loop μ-loop
+loop-less c = search needs
+
+loop-again : tie.Need-loop-again Inv-loop μ-loop
+loop-again c =
+    grown-more
+    _
+    (c .before .before .before .before .before .loop .inv)
+    (c .before .before .before .before .loop-test .taken)
+    (c .before .before .label-line .ensures)
+
+same-length : tie.Need-same-length Inv-loop μ-loop
+same-length c = c .before .loop .inv .sized ∙ c .before .before .before .before .form-line .ensures .sized
+
+returns : tie.Need-returns Inv-loop μ-loop
+returns c = grown-all _ (c .before .before .before .before .form-line .ensures) (c .before .loop .inv) (c .loop-test .left)
+
+pub label-lines-spec : {M : Type 1} → statement M
+label-lines-spec =
+    tie.close
+    (tie.spec
+    Inv-loop
+    μ-loop
+    form-line-requires
+    loop-holds
+    label-line-requires
+    add-i
+    loop-less
+    loop-again
+    same-length
+    returns)
