@@ -1,0 +1,223 @@
+-- What a table holds after one more entry: an item's name, a rule's words, and the left places of a rule. The entries before it are as they were.
+-- They rest on the laws of a put and of looking up a name.
+-- Assumes nothing.
+use mathlib.Core.Path.{_≡_, refl, sym, ap, _∙_}
+use mathlib.Core.Bool.{true}
+use mathlib.Core.List.{List, [], _∷_}
+use Prim.Native.Nat.{ℕ, zero, suc, _+_, _*_, _≤_, _<_}
+use native.Mathlib.Nat.{zero-add}
+use native.Mathlib.Decide.{decLt}
+use native.Mathlib.Omega.{arith}
+use borrow.Author.Count.{below-more}
+use lib.ListN.{length, getD, replicate, List·getD-eq-default}
+use lib.Seq.{ext-getD}
+use Rattle.items.specs.Names.{nameRoom, nameByte, isName}
+use Rattle.items.specs.Table.{mostItems, entryByte, nameLen, nameOf, NameAt, NewAt, ItemsOk}
+use Rattle.items.specs.Lookup.{findIn}
+use Rattle.items.specs.declared.Found.{Found}
+use Rattle.items.proofs.Names.{name-spelled, byte-not-zero}
+use Rattle.items.proofs.Table.{nameOf-length, nameOf-at, nameLen-is}
+use Rattle.items.proofs.Lookup.{HasName, find-lowest, find-absent, name-is-name, found-name}
+use Rattle.items.proofs.Counted.{SameItems, items-counted}
+use Rattle.rules.specs.Table.{ruleWords, wordAt, recordAt}
+use Rattle.rules.specs.Accepted.{mostLeft}
+use Rattle.rules.specs.declared.Rule.{Rule}
+use Rattle.tokens.specs.Writing.{over}
+use Rattle.tokens.proofs.Over.{over-length}
+use Rattle.reader.specs.Lines.{leftPlaces, wordsOf}
+use Rattle.rulebook.proofs.Buffers.{over-before, over-inside, over-behind, zeros-at}
+
+-- An entry that has a name is that name.
+module _ (t : List ℕ) (i : ℕ) (name : List ℕ) (e : isName name ≡ true) (h : HasName t i name) where
+  entry-zero : (k : ℕ) → length name ≤ k → k < nameRoom → entryByte t i k ≡ 0
+  entry-zero k m l = h .bytes k l ∙ List·getD-eq-default name 0 m
+
+  entry-byte : (k : ℕ) → k < length name → nameByte (entryByte t i k) ≡ true
+  entry-byte k l = rw (h .bytes k (omega (arith, name-spelled name e .most))) (name-spelled name e .bytes k l)
+
+  pub has-name-at : NameAt t i
+  has-name-at = record {
+    len = length name;
+    least = name-spelled name e .least;
+    most = name-spelled name e .most;
+    bytes = entry-byte;
+    rest = record { zeros = entry-zero };
+  }
+
+  pub has-name-of : nameOf t i ≡ name
+  has-name-of =
+      ext-getD 0 (nameOf t i) name (nameOf-length t i ∙ sym long)
+      (λ k l.
+      let inside : k < nameLen t i = omega (arith, nameOf-length t i) in
+      nameOf-at t i k inside ∙ h .bytes k (omega (arith, long, name-spelled name e .most)))
+    where
+      long : length name ≡ nameLen t i
+      long =
+          nameLen-is t i (length name) (name-spelled name e .most) (λ k l. byte-not-zero (entry-byte k l))
+          (λ l. entry-zero (length name) (omega arith) l)
+
+-- The item that is found has those bytes.
+pub found-bytes : (t : List ℕ) (n : ℕ) (name : List ℕ) (i : ℕ) → findIn t n name ≡ Found.At i → nameOf t i ≡ name
+found-bytes t n name i e = let f = find-lowest t n name i e in has-name-of t i name (f .spelled) (f .here)
+
+-- Each entry of a right table has its own name, and tables that are equal up to n have the same names.
+pub own-name : {t : List ℕ} {n : ℕ} → ItemsOk t n → (i : ℕ) → i < n → HasName t i (nameOf t i)
+own-name {t} {n} o i l = find-lowest t n (nameOf t i) i (found-name o i l) .here
+
+pub same-names : {n : ℕ} {t u : List ℕ} → SameItems n t u → ItemsOk t n → (i : ℕ) → i < n → nameOf u i ≡ nameOf t i
+same-names {n} {t} {u} s o i l =
+    has-name-of u i (nameOf t i) (name-is-name o i l) (record { bytes = λ k g. sym (s .bytes i k l g) ∙ own-name o i l .bytes k g })
+
+-- Every byte behind n items is zero.
+pub record Spare (t : List ℕ) (n : ℕ) : Type 0 where
+  pub zeros : (i : ℕ) → n * nameRoom ≤ i → getD t i 0 ≡ 0
+
+-- One more item: its name is put behind n items.
+module _ (t : List ℕ) (n : ℕ) (name : List ℕ) (e : isName name ≡ true) (room : n * nameRoom + nameRoom ≤ length t) (spare : Spare t n) where
+  abbrev pub added : List ℕ
+  added = over t (n * nameRoom) name
+
+  short : length name ≤ nameRoom
+  short = name-spelled name e .most
+
+  fits : n * nameRoom + length name ≤ length t
+  fits = omega (arith, short)
+
+  pub added-length : length added ≡ length t
+  added-length = over-length t (n * nameRoom) name fits
+
+  pub added-has : HasName added n name
+  unfolding entryByte
+  added-has = record { bytes = λ k l. at k (decLt k (length name)) }
+    where
+      at : (k : ℕ) → Dec (k < length name) → getD added (n * nameRoom + k) 0 ≡ getD name k 0
+      at k (yes l) = over-inside t (n * nameRoom) name fits k l
+      at k (no l) =
+          over-behind t (n * nameRoom) name fits (n * nameRoom + k) (omega arith)
+          ∙ spare .zeros (n * nameRoom + k) (omega arith)
+          ∙ sym (List·getD-eq-default name 0 (omega arith))
+
+  pub added-same : SameItems n t added
+  unfolding entryByte
+  added-same = record {
+    left = omega arith;
+    right = omega (arith, added-length);
+    bytes = λ i k h l. sym (over-before t (n * nameRoom) name fits (i * nameRoom + k) (omega arith));
+  }
+
+  pub added-spare : Spare added (n + 1)
+  added-spare = record {
+    zeros = λ i h.
+        over-behind t (n * nameRoom) name fits i (omega (arith, short)) ∙ spare .zeros i (omega arith);
+  }
+
+  pub added-ok : ItemsOk t n → n < mostItems → findIn t n name ≡ Found.Absent → ItemsOk added (n + 1)
+  added-ok o few new = record {
+    size = omega arith;
+    room = omega (arith, added-length);
+    names = below-more (NameAt added) n (before .names) (has-name-at added n name e added-has);
+    distinct =
+        below-more (NewAt added) n (before .distinct)
+        (record {
+          new = λ i l s.
+              find-absent t n name new .none e i l
+              (record { bytes = λ k g. added-same .bytes i k l g ∙ s .bytes k g ∙ added-has .bytes k g });
+        });
+  }
+    where
+      before : ItemsOk added n
+      before = items-counted added-same o
+
+-- Eight numbers are the numbers at their places.
+eight : (l : List ℕ) → length l ≡ 8
+    → l ≡ getD l 0 0 ∷ getD l 1 0 ∷ getD l 2 0 ∷ getD l 3 0 ∷ getD l 4 0 ∷ getD l 5 0 ∷ getD l 6 0 ∷ getD l 7 0 ∷ []
+eight l e = ext-getD 0 l _ e (λ i h. go i (omega (arith, h)))
+  where
+    go : (i : ℕ) → i < 8
+        → getD l i 0 ≡ getD (getD l 0 0 ∷ getD l 1 0 ∷ getD l 2 0 ∷ getD l 3 0 ∷ getD l 4 0 ∷ getD l 5 0 ∷ getD l 6 0 ∷ getD l 7 0 ∷ []) i 0
+    go zero h = refl
+    go (suc zero) h = refl
+    go (suc (suc zero)) h = refl
+    go (suc (suc (suc zero))) h = refl
+    go (suc (suc (suc (suc zero)))) h = refl
+    go (suc (suc (suc (suc (suc zero))))) h = refl
+    go (suc (suc (suc (suc (suc (suc zero)))))) h = refl
+    go (suc (suc (suc (suc (suc (suc (suc zero))))))) h = refl
+    go (suc (suc (suc (suc (suc (suc (suc (suc i)))))))) h = absurd (omega arith)
+
+-- Rules of the same thirteen words are the same.
+pub record-same : (w u : List ℕ) (r : ℕ) → ((k : ℕ) → k < ruleWords → wordAt w r k ≡ wordAt u r k) → recordAt w r ≡ recordAt u r
+unfolding recordAt
+record-same w u r h =
+    rw (
+      h 0 (omega arith),
+      h 1 (omega arith),
+      h 2 (omega arith),
+      h 3 (omega arith),
+      h 4 (omega arith),
+      h 5 (omega arith),
+      h 6 (omega arith),
+      h 7 (omega arith),
+      h 8 (omega arith),
+      h 9 (omega arith),
+      h 10 (omega arith),
+      h 11 (omega arith),
+      h 12 (omega arith),
+    )
+
+-- One more rule: its words are put behind r rules.
+module _ (w : List ℕ) (r : ℕ) (x : Rule) (room : r * ruleWords + ruleWords ≤ length w) where
+  abbrev pub ruled : List ℕ
+  ruled = over w (r * ruleWords) (wordsOf x)
+
+  pub ruled-length : length ruled ≡ length w
+  ruled-length = over-length w (r * ruleWords) (wordsOf x) room
+
+  word : (k : ℕ) → k < ruleWords → wordAt ruled r k ≡ getD (wordsOf x) k 0
+  unfolding wordAt
+  word k h = over-inside w (r * ruleWords) (wordsOf x) room k h
+
+  word-before : (q : ℕ) → q < r → (k : ℕ) → k < ruleWords → wordAt ruled q k ≡ wordAt w q k
+  unfolding wordAt
+  word-before q h k l = over-before w (r * ruleWords) (wordsOf x) room (q * 13 + k) (omega arith)
+
+  pub ruled-here : length (x .left) ≡ mostLeft → recordAt ruled r ≡ x
+  unfolding recordAt
+  ruled-here e =
+      rw (
+        word 0 (omega arith),
+        word 1 (omega arith),
+        word 2 (omega arith),
+        word 3 (omega arith),
+        word 4 (omega arith),
+        word 5 (omega arith),
+        word 6 (omega arith),
+        word 7 (omega arith),
+        word 8 (omega arith),
+        word 9 (omega arith),
+        word 10 (omega arith),
+        word 11 (omega arith),
+        word 12 (omega arith),
+        ← eight (x .left) e,
+      )
+
+  pub ruled-before : (q : ℕ) → q < r → recordAt ruled q ≡ recordAt w q
+  ruled-before q h = record-same ruled w q (word-before q h)
+
+-- The left places of a rule hold its items, and zeros behind them.
+module _ (items : List ℕ) (few : length items ≤ mostLeft) where
+  abbrev none : List ℕ
+  none = replicate mostLeft 0
+
+  room : 0 + length items ≤ length none
+  room = omega arith
+
+  pub places-length : length (leftPlaces items) ≡ mostLeft
+  places-length = over-length none 0 items room
+
+  pub places-at : (k : ℕ) → getD (leftPlaces items) k 0 ≡ getD items k 0
+  places-at k = go (decLt k (length items))
+    where
+      go : Dec (k < length items) → getD (leftPlaces items) k 0 ≡ getD items k 0
+      go (yes h) = ap (λ (j : ℕ). getD (leftPlaces items) j 0) (sym (zero-add k)) ∙ over-inside none 0 items room k h
+      go (no h) = over-behind none 0 items room k (omega arith) ∙ zeros-at mostLeft k ∙ sym (List·getD-eq-default items 0 (omega arith))

@@ -1,0 +1,104 @@
+-- Which key may come next, by its number: the form line at the start, and any other key after some line and not before its row; and the keys of the
+-- three kinds of rule. They rest on the table of keys, row by row.
+-- Assumes nothing.
+use mathlib.Core.Path.{_≡_, refl, sym, _∙_}
+use mathlib.Core.Bool.{Bool, true, false, cond, _&&_, not}
+use mathlib.Core.List.{List}
+use Prim.Native.Nat.{ℕ, zero, suc, _+_, _≤_, _<_}
+use native.Mathlib.Decide.{decLt}
+use native.Mathlib.Omega.{arith}
+use lib.Dec.{leb, eqb}
+use borrow.Author.Tests.{leb-true, le-leb, eqb-true, ne-eqb}
+use Rattle.items.specs.Search.{everyBelow}
+use Rattle.items.proofs.Bools.{true-not-false, and-left, and-right}
+use Rattle.items.proofs.Search.{every-at}
+use Rattle.rules.specs.Record.{byKind}
+use Rattle.tokens.specs.Keys.{keyNumber, nextAllowed}
+use Rattle.tokens.specs.declared.keys.Key.{Key}
+use Rattle.tokens.proofs.KeyTexts.{next-past-rows, next-past-columns}
+use Rattle.lines.specs.declared.Line.{Line}
+use Rattle.reader.specs.Lines.{State, kindOf, ruleStep, keyStep}
+
+abbrev mayCome : ℕ → ℕ → Bool
+mayCome after key = cond (eqb key 0) (eqb after 0) (leb 1 after && leb after (key + 1))
+
+abbrev agree : Bool → Bool → Bool
+agree a b = cond a b (not b)
+
+agree-same : (a b : Bool) → agree a b ≡ true → a ≡ b
+agree-same true true e = refl
+agree-same true false e = absurd (true-not-false e refl)
+agree-same false true e = absurd (true-not-false e refl)
+agree-same false false e = refl
+
+rows : everyBelow 6 (λ a. everyBelow 6 (λ k. agree (nextAllowed a k) (mayCome a k))) ≡ true
+unfolding everyBelow nextAllowed
+rows = refl
+
+next-inside : (after key : ℕ) → after < 6 → key < 6 → nextAllowed after key ≡ mayCome after key
+next-inside after key h g =
+    agree-same (nextAllowed after key) (mayCome after key)
+    (every-at 6 (λ k. agree (nextAllowed after k) (mayCome after k))
+    (every-at 6 (λ a. everyBelow 6 (λ k. agree (nextAllowed a k) (mayCome a k))) rows after h) key g)
+
+next-comes : (after key : ℕ) → nextAllowed after key ≡ true → mayCome after key ≡ true
+next-comes after key e = go (decLt after 6) (decLt key 6)
+  where
+    go : Dec (after < 6) → Dec (key < 6) → mayCome after key ≡ true
+    go (yes h) (yes g) = sym (next-inside after key h g) ∙ e
+    go (no h) g = absurd (true-not-false e (sym (next-past-rows after key (omega arith))))
+    go (yes h) (no g) = absurd (true-not-false e (sym (next-past-columns after key (omega arith))))
+
+-- The form line comes at the start.
+pub form-next : nextAllowed 0 (keyNumber Key.Form) ≡ true
+unfolding nextAllowed
+form-next = refl
+
+pub next-form : (after : ℕ) → nextAllowed after 0 ≡ true → after ≡ 0
+next-form after e = eqb-true after 0 (next-comes after 0 e)
+
+-- Any other key comes after some line, and not before its row.
+pub record NextRow (after key : ℕ) : Type 0 where
+  pub some : 1 ≤ after
+  pub rise : after ≤ key + 1
+
+later : (after key : ℕ) → mayCome after (suc key) ≡ (leb 1 after && leb after (suc key + 1))
+later after key = rw (ne-eqb (suc key) 0 (λ z. omega arith))
+
+pub next-row : (after key : ℕ) → nextAllowed after (suc key) ≡ true → NextRow after (suc key)
+next-row after key e =
+    record {
+      some = leb-true 1 after (and-left (leb 1 after) (leb after (suc key + 1)) both);
+      rise = leb-true after (suc key + 1) (and-right (leb 1 after) (leb after (suc key + 1)) both);
+    }
+  where
+    both : (leb 1 after && leb after (suc key + 1)) ≡ true
+    both = sym (later after key) ∙ next-comes after (suc key) e
+
+pub row-next : {after key : ℕ} → NextRow after (suc key) → after < 6 → suc key < 6 → nextAllowed after (suc key) ≡ true
+row-next {after} {key} r h g =
+    next-inside after (suc key) h g ∙ later after key ∙ rw (le-leb 1 after (r .some), le-leb after (suc key + 1) (r .rise))
+
+-- The keys of the three kinds of rule.
+abbrev pub keyOfKind : ℕ → Key
+keyOfKind k = byKind k Key.Cap Key.Floor Key.Follow
+
+pub record KindKey (k : ℕ) : Type 0 where
+  pub kind : kindOf (keyOfKind k) ≡ k
+  pub number : keyNumber (keyOfKind k) ≡ suc (1 + k)
+
+pub kind-key : (k : ℕ) → k ≤ 2 → KindKey k
+kind-key zero h = record { kind = refl; number = refl }
+kind-key (suc zero) h = record { kind = refl; number = refl }
+kind-key (suc (suc zero)) h = record { kind = refl; number = refl }
+kind-key (suc (suc (suc k))) h = absurd (omega arith)
+
+-- A line with the key of a kind is read as a rule, and may come by its kind.
+pub kind-step : (k : ℕ) (st : State) (l : List ℕ) (y : Line) → keyStep (keyOfKind k) st l y ≡ ruleStep st l y
+kind-step zero st l y = refl
+kind-step (suc zero) st l y = refl
+kind-step (suc (suc k)) st l y = refl
+
+pub kind-next : {after : ℕ} (k : ℕ) → k ≤ 2 → 1 ≤ after → after ≤ 3 + k → nextAllowed after (keyNumber (keyOfKind k)) ≡ true
+kind-next {after} k h some rise =
+    rw (kind-key k h .number) (row-next (record { some = some; rise = omega arith }) (omega arith) (omega arith))

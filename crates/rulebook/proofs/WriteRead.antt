@@ -1,0 +1,124 @@
+-- A rulebook that was written reads back: tables that the writer accepts, written and read, come back equal up to their counts. It rests on one
+-- line after another, items first, then rules, then the end.
+-- Assumes nothing.
+use mathlib.Core.Path.{_≡_, refl, sym, ap, _∙_, subst}
+use mathlib.Core.List.{List, [], _++_, append-assoc, append-nil}
+use Prim.Native.Nat.{ℕ, zero, suc, _+_, _*_, _^_, _≤_, _<_}
+use native.Mathlib.Nat.{le-refl, zero-add}
+use native.Mathlib.Omega.{arith}
+use lib.ListN.{length, length-replicate}
+use Rattle.items.specs.Table.{nameOf}
+use Rattle.items.proofs.Lookup.{name-is-name}
+use Rattle.rules.specs.Table.{ruleWords, wordAt, recordAt}
+use Rattle.rules.specs.Accepted.{mostRules}
+use Rattle.reader.specs.declared.ReadBook.{ReadBook}
+use Rattle.reader.specs.Lines.{State, start, Result, resultOf}
+use Rattle.reader.specs.Reading.{readText}
+use Rattle.writer.specs.Texts.{pieces, formLine, itemLine, ruleLine, endLine, bookText}
+use Rattle.writer.specs.Writing.{Tables}
+use Rattle.rulebook.specs.RoundTrip.{Words, ReadBack}
+use Rattle.rulebook.proofs.Buffers.{same-take}
+use Rattle.rulebook.proofs.KeyRows.{form-next, NextRow, row-next, KindKey, kind-key, kind-step, kind-next}
+use Rattle.rulebook.proofs.LineCases.{formNext}
+use Rattle.rulebook.proofs.LineByLine.{Reads, reads-line, reads-end}
+use Rattle.rulebook.proofs.LinesRead.{form-line, item-line, end-line}
+use Rattle.rulebook.proofs.Filling.{holds-none}
+use Rattle.rulebook.proofs.Steps.{Filled, item-step, item-fills, rule-line, rule-step, rule-fills, record-words, end-step}
+
+-- The result of reading is the book, and its tables are t and w up to their counts.
+abbrev Back : List ℕ → ℕ → List ℕ → ℕ → Result → Type 0
+Back t n w m r = ReadBack t n w m (r .answer) (r .names) (r .words)
+
+-- The next of m rules may come, if there is one, and the end.
+record MayCome (w : List ℕ) (m r after : ℕ) : Type 0 where
+  some : 1 ≤ after
+  most : after ≤ 5
+  rule : r < m → after ≤ 3 + recordAt w r .kind
+
+marks-small : {w : List ℕ} → Words w → (r : ℕ) → recordAt w r .class .marks < 2 ^ 64
+unfolding recordAt wordAt
+marks-small u r = u .small (r * 13 + 12)
+
+module _ {t w : List ℕ} {n m : ℕ} (a : Tables t n w m) (u : Words w) where
+  back : {st : State} → Filled t w n m st → Back t n w m (resultOf st (ReadBook.Book n m))
+  back f = record {
+    answer = refl;
+    tables = record {
+      items = same-take (f .names .same) (omega (arith, f .names .size, a .items .size)) (a .items .room);
+      rules = same-take (f .words) (omega (arith, f .room, a .rules .accepted .rules)) (a .rules .room);
+    };
+  }
+
+  end-reads : {st : State} → Filled t w n m st → 1 ≤ st .counts .after → st .counts .after ≤ 5
+      → Reads (Back t n w m) st (endLine (1 + n + m))
+  end-reads {st} f some most =
+      let x = end-line (1 + n + m) (omega (arith, a .items .size, a .rules .accepted .rules)) in
+      subst (Reads (Back t n w m) st) (append-nil (endLine (1 + n + m)))
+      (reads-end x [] (row-next (record { some = some; rise = omega arith }) (omega arith) (omega arith))
+      (end-step f (endLine (1 + n + m) ++ []) (ap length (append-nil (endLine (1 + n + m))) ∙ sym (x .size)))
+      (back f))
+
+  abbrev rulesFrom : ℕ → ℕ → List ℕ
+  rulesFrom r c = pieces (λ k. ruleLine t (recordAt w k)) r c
+
+  rules-read : (c r : ℕ) → r + c ≡ m → {st : State} → Filled t w n r st → MayCome w m r (st .counts .after)
+      → Reads (Back t n w m) st (rulesFrom r c ++ endLine (1 + n + m))
+  unfolding pieces
+  rules-read zero r e {st} f g = end-reads (subst (λ (k : ℕ). Filled t w n k st) (omega arith) f) (g .some) (g .most)
+  rules-read (suc c) r e {st} f g =
+      let stands = a .rules .accepted .each r (omega arith) in
+      let rest = rulesFrom (suc r) c ++ endLine (1 + n + m) in
+      let kind : KindKey (recordAt w r .kind) = kind-key (recordAt w r .kind) (stands .accepted .kind) in
+      let few : r < mostRules = omega (arith, a .rules .accepted .rules) in
+      rw (append-assoc (ruleLine t (recordAt w r)) (rulesFrom (suc r) c) (endLine (1 + n + m)))
+      (reads-line (rule-line (a .items) (recordAt w r) (stands .accepted) (marks-small u r)) rest
+      (kind-next (recordAt w r .kind) (stands .accepted .kind) (g .some) (g .rule (omega arith)))
+      (kind-step (recordAt w r .kind) st _ _ ∙ rule-step (a .items) (recordAt w r) (stands .accepted) rest f few)
+      (rules-read c (suc r) (omega arith) (rule-fills (a .items) (recordAt w r) (stands .accepted) rest f few (record-words w r))
+      (record {
+        some = omega arith;
+        most = omega (arith, kind .number, stands .accepted .kind);
+        rule = λ h. omega (arith, kind .number, stands .order h);
+      })))
+
+  items-read : (c i : ℕ) → i + c ≡ n → {st : State} → Filled t w i 0 st → NextRow (st .counts .after) 1
+      → Reads (Back t n w m) st (pieces (itemLine t) i c ++ (rulesFrom 0 m ++ endLine (1 + n + m)))
+  unfolding pieces
+  items-read zero i e {st} f g =
+      rules-read m 0 (zero-add m) (subst (λ (k : ℕ). Filled t w k 0 st) (omega arith) f)
+      (record { some = g .some; most = omega (arith, g .rise); rule = λ h. omega (arith, g .rise) })
+  items-read (suc c) i e {st} f g =
+      let rest = pieces (itemLine t) (suc i) c ++ (rulesFrom 0 m ++ endLine (1 + n + m)) in
+      let inside : i < n = omega arith in
+      subst (Reads (Back t n w m) st) (sym (append-assoc (itemLine t i) (pieces (itemLine t) (suc i) c) (rulesFrom 0 m ++ endLine (1 + n + m))))
+      (reads-line (item-line (nameOf t i) (name-is-name (a .items) i inside)) rest
+      (row-next g (omega (arith, g .rise)) (omega arith)) (item-step (a .items) inside f rest)
+      (items-read c (suc i) (omega arith) (item-fills (a .items) inside f rest)
+      (record { some = omega arith; rise = omega arith })))
+
+-- The tables that the writer accepts, written and read, come back equal up to their counts.
+pub write-read : {t w : List ℕ} {n m : ℕ} → Tables t n w m → Words w → Back t n w m (readText (bookText t n w m))
+unfolding bookText
+write-read {t} {w} {n} {m} a u = whole .reads (length (bookText t n w m)) (le-refl _)
+  where
+    rest : List ℕ
+    rest = pieces (itemLine t) 0 n ++ (pieces (λ k. ruleLine t (recordAt w k)) 0 m ++ endLine (1 + n + m))
+
+    filled : Filled t w 0 0 (formNext start)
+    filled = record {
+      lines = refl;
+      items = refl;
+      rules = refl;
+      names = holds-none t;
+      room = length-replicate {A = ℕ} (mostRules * ruleWords) 0;
+      words = record { same = λ k h. absurd (omega arith) };
+    }
+
+    whole : Reads (Back t n w m) start (bookText t n w m)
+    whole =
+        subst (Reads (Back t n w m) start)
+        (sym
+        (append-assoc (formLine ++ pieces (itemLine t) 0 n) (pieces (λ k. ruleLine t (recordAt w k)) 0 m) (endLine (1 + n + m))
+        ∙ append-assoc formLine (pieces (itemLine t) 0 n) (pieces (λ k. ruleLine t (recordAt w k)) 0 m ++ endLine (1 + n + m))))
+        (reads-line form-line rest form-next refl
+        (items-read a u n 0 (zero-add n) filled (record { some = omega arith; rise = omega arith })))
