@@ -1,10 +1,8 @@
 // Writes rulebooks from tables made by hand, good and bad, into lent buffers of every length, and prints a line for each answer.
 mod book;
-mod long;
 mod tables;
 
 fn main() {
     book::run();
     tables::run();
-    long::run();
 }

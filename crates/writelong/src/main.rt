@@ -1,5 +1,5 @@
-// Books of 256 items with names of 16 bytes, and as many floors of eight left names as make a text of 32,768 bytes, or of one more. Too long a text is
-// looked for after a bad table and before room.
+// Writes rulebooks of 256 items with names of 16 bytes, and as many floors of eight left names as make a text of 32,768 bytes, or of one more, and prints
+// a line for each answer. Too long a text is looked for after a bad table and before room.
 use cases::build::MANY;
 use cases::build::eight;
 use cases::build::floor;
@@ -12,7 +12,7 @@ use texts::wrote::show_write;
 // The word of the level of rule 167, the last of 168.
 const LAST_LEVEL: usize = 2182;
 
-pub fn run() {
+fn main() {
     let mut items = [0u8; 4112];
     let mut rules = [0u64; MANY];
     long_names(&mut items);

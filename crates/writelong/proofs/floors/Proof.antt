@@ -1,10 +1,10 @@
--- `long::floors` meets its contract. Assumes nothing.
+-- `floors` meets its contract. Assumes nothing.
 use mathlib.Core.Path.{_≡_}
 use Prim.Native.Nat.{_-_}
 use lib.ListN.{length}
 use borrow.Author.Needs.{needs}
-use Rattle.writes.proofs.long.floors.Statement.{statement}
-use Rattle.writes.proofs.long.floors.Tie as tie
+use Rattle.writelong.proofs.floors.Statement.{statement}
+use Rattle.writelong.proofs.floors.Tie as tie
 
 abbrev Inv-loop : tie.InvT-loop
 Inv-loop rules₀ tens r₀ rules r = length rules ≡ length rules₀
