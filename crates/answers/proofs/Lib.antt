@@ -1,8 +1,9 @@
 -- Why the answer is right: the puts that make a refusal, tables that are equal up to their counts, what each function answers, and that there is
--- only one answer.
+-- only one answer; and that every place is printed whole.
 pub mod Putting
 pub mod SameBooks
 pub mod WholeRoom
 pub mod Says
 pub mod Short
 pub mod Unique
+pub mod Places
