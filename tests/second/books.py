@@ -94,13 +94,18 @@ def mixed(rng):
     return draft
 
 
+def follow_along(draft, rng, links, alone):
+    """A follow for each link, from one item to the next; with the chance `alone` the item is the whole left side, else one more may stand there."""
+    for one, next_one in links:
+        draft.follow([one] if alone == 1 or rng.random() < alone else sorted({one, draft.item()}), next_one)
+
+
 def chain(rng):
     """Each item follows the next, in book order, against it or in any order; a floor at the far end."""
     draft = Draft(rng)
     order = list(range(draft.size()))
     rng.choice([order.sort, order.reverse, lambda: rng.shuffle(order)])()
-    for one, next_one in zip(order, order[1:]):
-        draft.follow([one] if rng.random() < 0.7 else sorted({one, draft.item()}), next_one)
+    follow_along(draft, rng, zip(order, order[1:]), 0.7)
     draft.floor([order[-1]] if rng.random() < 0.7 else None)
     fill(draft, 2, 1, 1)
     return draft
@@ -111,8 +116,7 @@ def circle(rng):
     draft = Draft(rng)
     order = list(range(draft.size()))
     rng.shuffle(order)
-    for one, next_one in zip(order, order[1:] + order[:1]):
-        draft.follow([one] if rng.random() < 0.6 else sorted({one, draft.item()}), next_one)
+    follow_along(draft, rng, zip(order, order[1:] + order[:1]), 0.6)
     draft.floor()
     fill(draft, 2, 1, 0)
     return draft
@@ -159,8 +163,7 @@ def pinched(rng):
     draft = Draft(rng)
     order = list(range(draft.size()))
     rng.shuffle(order)
-    for one, next_one in zip(order, order[1:]):
-        draft.follow([one], next_one)
+    follow_along(draft, rng, zip(order, order[1:]), 1)
     level, marks = max(draft.levels), sum(set(draft.marks))
     draft.floor([order[-1]], (level, marks))
     draft.cap(order[0], rng.choice([(level - 1, ALL_MARKS), (level, marks & ~rng.choice(draft.marks)), (level, marks), (level - 1, 0)]))

@@ -1,114 +1,28 @@
--- The places that are printed: a refusal of reading names a line that is at most two past the text's length, and so every number and place of a
--- refusal is printed whole. They rest on the definition of a step, answer by answer, and on what a line that moves on says.
+-- The places that are printed: a refusal of reading is at a place of at most five digits, and so is printed whole. It rests on where reading refuses.
 -- Assumes nothing.
 use mathlib.Core.Path.{_≡_, refl, subst}
-use mathlib.Core.Bool.{Bool, true, false, cond, _&&_}
-use mathlib.Core.List.{List, [], _∷_}
-use Prim.Native.Nat.{ℕ, zero, suc, _+_, _≤_, _<_}
-use native.Mathlib.Nat.{le-refl}
+use mathlib.Core.Bool.{Bool, true, false, cond}
+use mathlib.Core.List.{List}
+use Prim.Native.Nat.{ℕ, _+_, _≤_}
 use native.Mathlib.Omega.{arith}
-use lib.Dec.{ltb, leb, eqb}
-use lib.ListN.{length, drop, length-drop}
+use lib.Dec.{ltb}
+use lib.ListN.{length}
 use borrow.Author.Tests.{ltb-false}
-use Rattle.items.specs.Table.{mostItems}
-use Rattle.items.specs.Lookup.{findIn}
-use Rattle.rules.specs.Accepted.{mostRules, mostLeft}
-use Rattle.tokens.specs.Keys.{keyNumber, nextAllowed}
-use Rattle.tokens.specs.declared.keys.Key.{Key}
-use Rattle.lines.specs.Lines.{lineAt, lineLen}
-use Rattle.lines.specs.declared.Line.{Line}
-use Rattle.lines.specs.declared.ReadLine.{ReadLine}
+use Rattle.refusals.specs.Numbers.{mostText}
 use Rattle.refusals.specs.declared.Fault.{Fault}
 use Rattle.reader.specs.declared.ReadBook.{ReadBook}
-use Rattle.reader.specs.Names.{rising}
-use Rattle.reader.specs.Lines.{State, start, Turn, on, stop, isAbsent, itemName, leftPlaces, leftNumbers, allFound, itemStep, ruleStep, endStep, keyStep, lineStep, step}
-use Rattle.reader.specs.Reading.{mostText, goOn, readFrom, readText}
-use Rattle.reader.proofs.Whole.{Few, TurnSays, step-says}
+use Rattle.reader.specs.Lines.{start}
+use Rattle.reader.specs.Reading.{readText}
+use Rattle.reader.proofs.Whole.{start-few}
+use Rattle.reader.proofs.Places.{Near, near-more, read-near}
 use Rattle.answers.specs.Answering.{readWhole}
 
--- A refusal is at most n.
-abbrev Near : ℕ → ReadBook → Type 0
-Near n (ReadBook.Book i r) = Unit
-Near n (ReadBook.Refused f p) = p ≤ n
-
--- A line that stops is refused at itself or at the next line.
-abbrev StopNear : State → Turn → Type 0
-StopNear st (on next k) = Unit
-StopNear st (stop r) = Near (st .counts .lines + 2) (r .answer)
-
-either : (P : Turn → Type 0) (b : Bool) (x y : Turn) → P x → P y → P (cond b x y)
-either P true x y p q = p
-either P false x y p q = q
-
-here : (st : State) → st .counts .lines + 1 ≤ st .counts .lines + 2
-here st = omega arith
-
-module _ (st : State) (l : List ℕ) (x : Line) where
-  item-near : StopNear st (itemStep st l x)
-  unfolding itemStep
-  item-near =
-      either (StopNear st) (ltb (st .counts .items) mostItems) _ _
-      (either (StopNear st) (isAbsent (findIn (st .names) (st .counts .items) (itemName l x))) _ _ tt (here st))
-      (here st)
-
-  rule-near : StopNear st (ruleStep st l x)
-  unfolding ruleStep
-  rule-near =
-      either (StopNear st) (ltb (st .counts .rules) mostRules && leb (x .value .names) mostLeft) _ _
-      (either (StopNear st) (allFound st l x) _ _
-      (either (StopNear st) (rising (x .value .names) (leftPlaces (leftNumbers st l x))) _ _ tt (here st))
-      (here st))
-      (here st)
-
-  end-near : StopNear st (endStep st l x)
-  unfolding endStep
-  end-near =
-      either (StopNear st) (eqb (x .value .count) (st .counts .lines)) _ _
-      (either (StopNear st) (eqb (length l) (lineLen x)) _ _ tt (le-refl _))
-      (here st)
-
-  key-near : (k : Key) → StopNear st (keyStep k st l x)
-  key-near Key.Form = tt
-  key-near Key.Item = item-near
-  key-near Key.Cap = rule-near
-  key-near Key.Floor = rule-near
-  key-near Key.Follow = rule-near
-  key-near Key.End = end-near
-
-line-near : (st : State) (l : List ℕ) (y : ReadLine) → StopNear st (lineStep st l y)
-unfolding lineStep
-line-near st l ReadLine.Bad = here st
-line-near st l (ReadLine.Found x) =
-    either (StopNear st) (nextAllowed (st .counts .after) (keyNumber (x .key))) _ _ (key-near st l x (x .key)) (here st)
-
-step-near : (st : State) (l : List ℕ) → StopNear st (step st l)
-unfolding step
-step-near st [] = here st
-step-near st (b ∷ l) = line-near st (b ∷ l) (lineAt (b ∷ l))
-
-near-more : (m n : ℕ) (r : ReadBook) → m ≤ n → Near m r → Near n r
-near-more m n (ReadBook.Book i k) h g = tt
-near-more m n (ReadBook.Refused f p) h g = omega arith
-
-go-near : (f : ℕ) (st : State) (l : List ℕ) (t : Turn) → TurnSays st l t → StopNear st t
-    → ((next : State) (k : ℕ) → Few (next .counts) → Near (next .counts .lines + length (drop k l) + 2) (readFrom f next (drop k l) .answer))
-    → Near (st .counts .lines + length l + 2) (goOn (λ next k. readFrom f next (drop k l)) t .answer)
-go-near f st l (on next k) w s g =
-    near-more (next .counts .lines + length (drop k l) + 2) (st .counts .lines + length l + 2) (readFrom f next (drop k l) .answer)
-    (omega (arith, w .some, w .within, w .lines, length-drop k l)) (g next k (w .few))
-go-near f st l (stop r) w s g = near-more (st .counts .lines + 2) (st .counts .lines + length l + 2) (r .answer) (omega arith) s
-
-read-near : (f : ℕ) (st : State) (l : List ℕ) → Few (st .counts) → Near (st .counts .lines + length l + 2) (readFrom f st l .answer)
-unfolding readFrom
-read-near zero st l few = omega arith
-read-near (suc f) st l few = go-near f st l (step st l) (step-says st l few) (step-near st l) (λ next k h. read-near f next (drop k l) h)
-
--- The place of a refusal has at most five digits.
 whole-near : (l : List ℕ) (b : Bool) → ltb mostText (length l) ≡ b → Near (mostText + 2) (cond b (ReadBook.Refused Fault.TooLong 0) (readText l .answer))
 whole-near l true e = omega arith
 whole-near l false e =
     near-more (0 + length l + 2) (mostText + 2) (readText l .answer) (omega (arith, ltb-false mostText (length l) e))
-    (read-near (length l) start l (record { items = omega arith; rules = omega arith }))
+    (read-near (length l) start l start-few)
 
+-- The place of a refusal has at most five digits.
 pub place-small : (l : List ℕ) (f : Fault) (p : ℕ) → readWhole l ≡ ReadBook.Refused f p → p ≤ 32770
 place-small l f p e = subst (Near (mostText + 2)) e (whole-near l (ltb mostText (length l)) refl)

@@ -6,7 +6,7 @@ use Prim.Native.Nat.{ℕ, _+_, _≤_}
 use native.Mathlib.Nat.{zero-add}
 use native.Mathlib.Omega.{arith}
 use lib.ListN.{length, length-append}
-use Rattle.reader.specs.Reading.{mostText}
+use Rattle.refusals.specs.Numbers.{mostText}
 use Rattle.tokens.specs.Keys.{keyText}
 use Rattle.tokens.specs.Numbers.{decimalLen}
 use Rattle.tokens.specs.Tokens.{countText}

@@ -11,7 +11,7 @@ use Rattle.tokens.specs.Keys.{keyText}
 use Rattle.tokens.specs.declared.keys.Key.{Key}
 use Rattle.tokens.proofs.Over.{over-length}
 use Rattle.refusals.specs.declared.Fault.{Fault}
-use Rattle.reader.specs.Reading.{mostText}
+use Rattle.refusals.specs.Numbers.{mostText}
 use Rattle.writer.specs.Texts.{formLine}
 use Rattle.writer.specs.Writing.{CopySays, roomless, copied}
 use Rattle.writer.specs.declared.Written.{Written}

@@ -13,7 +13,8 @@ use Rattle.items.specs.Names.{nameRoom}
 use Rattle.rules.specs.Table.{ruleWords}
 use Rattle.tokens.specs.Writing.{over}
 use Rattle.refusals.specs.declared.Fault.{Fault}
-use Rattle.reader.specs.Reading.{mostText, readText, fitted, readAnswer, readNumber, ReadSays}
+use Rattle.refusals.specs.Numbers.{mostText}
+use Rattle.reader.specs.Reading.{readText, fitted, readAnswer, readNumber, ReadSays}
 use Rattle.reader.specs.declared.ReadBook.{ReadBook}
 use Rattle.reader.proofs.Whole.{FewRead, read-few}
 use Rattle.writer.specs.Writing.{Tables}

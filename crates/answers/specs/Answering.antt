@@ -14,9 +14,9 @@ use Rattle.rules.specs.Table.{bookOf}
 use Rattle.tokens.specs.Keys.{keyText}
 use Rattle.tokens.specs.Tokens.{countText}
 use Rattle.tokens.specs.declared.keys.Key.{Key}
-use Rattle.refusals.specs.Numbers.{faultNumber}
+use Rattle.refusals.specs.Numbers.{faultNumber, mostText}
 use Rattle.refusals.specs.declared.Fault.{Fault}
-use Rattle.reader.specs.Reading.{mostText, readText}
+use Rattle.reader.specs.Reading.{readText}
 use Rattle.reader.specs.declared.ReadBook.{ReadBook}
 use Rattle.writer.specs.Texts.{formLine, labelsText}
 use Rattle.writer.specs.Writing.{CopySays}

@@ -4,7 +4,7 @@ use mathlib.Core.Path.{_≡_}
 use mathlib.Core.List.{List}
 use Prim.Native.Nat.{ℕ, _+_, _≤_}
 use lib.ListN.{length, take}
-use Rattle.reader.specs.Reading.{mostText}
+use Rattle.refusals.specs.Numbers.{mostText}
 use Rattle.writer.specs.Writing.{Tables, Labels}
 
 -- The buffer has room for every text.

@@ -14,7 +14,6 @@ use Rattle.tokens.specs.declared.read.ReadName.{ReadName}
 use Rattle.tokens.specs.declared.read.ReadCount.{ReadCount}
 use Rattle.tokens.specs.declared.read.ReadClass.{ReadClass}
 use Rattle.lines.specs.declared.left.ReadLeft.{ReadLeft}
-use Rattle.lines.specs.declared.value.Value.{Value}
 use Rattle.lines.specs.declared.value.ReadValue.{ReadValue}
 use Rattle.lines.specs.Left.{leftAt}
 

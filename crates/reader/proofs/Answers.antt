@@ -1,9 +1,8 @@
 -- What `read` answers, one law for each answer that the code can give. They rest on what a whole text gives.
 -- Assumes nothing.
 use mathlib.Core.Path.{_≡_, refl, sym, ap, _∙_}
-use mathlib.Core.Bool.{_&&_}
 use mathlib.Core.List.{List}
-use Prim.Native.Nat.{ℕ, _+_, _-_, _*_, _^_, _≤_, _<_}
+use Prim.Native.Nat.{ℕ, _+_, _-_, _*_, _≤_, _<_}
 use native.Mathlib.Omega.{arith}
 use lib.ListN.{length, take, drop}
 use lib.Seq.{length-take-le}
@@ -17,7 +16,8 @@ use Rattle.tokens.proofs.Over.{put-buffer}
 use Rattle.refusals.specs.declared.Fault.{Fault}
 use Rattle.reader.specs.declared.ReadBook.{ReadBook}
 use Rattle.reader.specs.Lines.{Result, emptyNames, emptyWords}
-use Rattle.reader.specs.Reading.{mostText, readText, readAnswer, ReadSays}
+use Rattle.refusals.specs.Numbers.{mostText}
+use Rattle.reader.specs.Reading.{readText, readAnswer, ReadSays}
 use Rattle.reader.specs.Inner.{StartsEmpty, resultIs}
 use Rattle.reader.proofs.Whole.{FewRead, read-few}
 

@@ -1,7 +1,8 @@
--- Why it is true: words put into a table, names looked up, what one line gives, and what a whole text gives.
+-- Why it is true: words put into a table, names looked up, what one line gives, what a whole text gives, and where reading refuses.
 pub mod Put
 pub mod LookUps
 pub mod Turns
 pub mod Whole
+pub mod Places
 pub mod Answers
 pub mod Unique

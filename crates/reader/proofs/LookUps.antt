@@ -2,22 +2,20 @@
 -- on the laws of searches and of what a put leaves in a buffer.
 -- Assumes nothing.
 use mathlib.Core.Path.{_≡_, refl, sym, ap, _∙_}
-use mathlib.Core.Bool.{Bool, true, false, cond, not, _&&_}
+use mathlib.Core.Bool.{Bool, true, false, _&&_}
 use mathlib.Core.List.{List, [], _∷_}
-use mathlib.Core.Logic.{_⊎_, inl, inr}
-use Prim.Native.Nat.{ℕ, zero, suc, _+_, _-_, _^_, _≤_, _<_, min}
-use native.Mathlib.Nat.{add-assoc}
+use mathlib.Core.Logic.{inl, inr}
+use Prim.Native.Nat.{ℕ, suc, _+_, _-_, _≤_, _<_, min}
 use native.Mathlib.Decide.{decLe}
-use native.Mathlib.Numerals.{add-one}
 use native.Mathlib.Omega.{arith}
-use lib.Dec.{ltb, eqb}
+use lib.Dec.{ltb}
 use lib.ListN.{length, getD, set, take, drop, drop-of-length-le, length-drop, length-set}
-use lib.Seq.{take-all, take-length, drop-drop}
+use lib.Seq.{take-all, drop-drop}
 use mir.Syntax.{w64}
 use mir.Val.{Fits}
 use types.Run.{OneOf}
 use denote.Enum as enum
-use borrow.Author.Tests.{eq-eqb, ne-eqb, lt-ltb, le-ltb, ltb-true}
+use borrow.Author.Tests.{eq-eqb, ne-eqb, lt-ltb, ltb-true}
 use Rattle.items.specs.Search.{everyBelow}
 use Rattle.items.specs.Names.{nameByte}
 use Rattle.items.specs.Lookup.{findIn}
@@ -31,7 +29,7 @@ use Rattle.tokens.proofs.Over.{over-none}
 use Rattle.tokens.proofs.Runs.{run-le}
 use Rattle.reader.specs.Names.{isItem, itemNumber, everyItem, numbersOf, rising}
 use Rattle.reader.specs.Lines.{rightItemAt}
-use Rattle.reader.specs.Reading.{mostText}
+use Rattle.refusals.specs.Numbers.{mostText}
 use Rattle.reader.specs.Inner.{LookReady, LooksUp}
 use Rattle.reader.proofs.Put.{over-next}
 

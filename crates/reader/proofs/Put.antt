@@ -1,6 +1,6 @@
 -- Words put into a table, and the left places of a rule filled one after the other. They rest on the laws of what a put leaves in a buffer.
 -- Assumes nothing.
-use mathlib.Core.Path.{_≡_, sym, _∙_}
+use mathlib.Core.Path.{_≡_}
 use mathlib.Core.List.{List, [], _∷_}
 use Prim.Native.Nat.{ℕ, _+_, _*_, _≤_, _<_}
 use native.Mathlib.Omega.{arith}

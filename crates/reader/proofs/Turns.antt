@@ -2,9 +2,9 @@
 -- a buffer.
 -- Assumes nothing.
 use mathlib.Core.Path.{_≡_, refl, sym, ap, _∙_}
-use mathlib.Core.Bool.{Bool, true, false, cond, not, _&&_}
+use mathlib.Core.Bool.{Bool, true, false, not}
 use mathlib.Core.List.{List, [], _∷_}
-use mathlib.Core.Logic.{_⊎_, inl, inr}
+use mathlib.Core.Logic.{inl, inr}
 use Prim.Native.Nat.{ℕ, _+_, _-_, _*_, _^_, _≤_, _<_}
 use native.Mathlib.Nat.{add-assoc}
 use native.Mathlib.Omega.{arith}
@@ -15,14 +15,12 @@ use mir.Val.{Fits}
 use types.Run.{OneOf}
 use denote.Enum as enum
 use borrow.Author.Tests.{eq-eqb, ne-eqb, lt-ltb, le-ltb, le-leb, lt-leb, not-true, not-false}
-use Rattle.classes.specs.declared.Class.{Class}
 use Rattle.items.specs.Names.{nameRoom}
 use Rattle.items.specs.Table.{mostItems}
 use Rattle.items.specs.Lookup.{findIn}
 use Rattle.items.specs.declared.Found.{Found}
 use Rattle.items.proofs.Found as found
 use Rattle.rules.specs.Accepted.{mostRules, mostLeft}
-use Rattle.rules.specs.Table.{ruleWords}
 use Rattle.rules.specs.declared.Rule.{Rule}
 use Rattle.tokens.specs.Keys.{keyNumber, nextAllowed}
 use Rattle.tokens.specs.Writing.{over, Put}
@@ -36,10 +34,10 @@ use Rattle.refusals.specs.declared.Fault.{Fault}
 use Rattle.reader.specs.declared.ReadBook.{ReadBook}
 use Rattle.reader.specs.declared.line.Counts.{Counts}
 use Rattle.reader.specs.declared.line.Stepped.{Stepped}
-use Rattle.reader.specs.Names.{isItem, itemNumber, everyItem, numbersOf, rising}
-use Rattle.reader.specs.Lines.{State, Turn, on, stop, refuse, counted, isAbsent, itemStep, kindOf, wordsOf, leftPlaces, rightItemAt, allFound, ruleOf, ruleStep, endStep, keyStep, lineStep, step}
-use Rattle.reader.specs.Reading.{mostText}
-use Rattle.reader.specs.Inner.{stateOf, turnOf, Ready, LineReady, ItemReady, RuleReady, refusedAt, ItemStepped, EndStepped, LookReady, LooksUp, RuleRoom}
+use Rattle.reader.specs.Names.{everyItem, numbersOf, rising}
+use Rattle.reader.specs.Lines.{State, Turn, counted, isAbsent, itemStep, ruleKind, wordsOf, leftPlaces, rightItemAt, allFound, ruleStep, endStep, keyStep, lineStep, step}
+use Rattle.refusals.specs.Numbers.{mostText}
+use Rattle.reader.specs.Inner.{stateOf, turnOf, Ready, LineReady, ItemReady, RuleReady, refusedAt, ItemStepped, EndStepped, LookReady, LooksUp}
 use Rattle.reader.proofs.LookUps.{not-item}
 
 -- A key's number is at most 5.
@@ -226,7 +224,7 @@ module _ (text : List ℕ) (at : ℕ) (x : Line) (c : Counts) (names words : Lis
                   not-true d p,
                 )
 
-            pub rule-new : not d ≡ false → {z : Rule} {u : ℕ} → u ≡ kindOf (x .key)
+            pub rule-new : not d ≡ false → {z : Rule} {u : ℕ} → u ≡ ruleKind (x .key)
                 → z ≡ record { kind = u; count = x .value .names; left = left′; right = k; class = x .value .class }
                 → {words′ : List ℕ} → words′ ≡ over words (c .rules * 13) (wordsOf z)
                 → {e′ : Counts} → e′ ≡ counted c (x .key) (c .items) (c .rules + 1) → {n : ℕ} → n ≡ lineLen x

@@ -1,20 +1,17 @@
 -- What a whole text gives: a line read moves on, the counts stay within their sizes, and what `read` answers. They rest on the laws of one line.
 -- Assumes nothing.
 use mathlib.Core.Path.{_≡_, refl, sym, ap, _∙_, subst}
-use mathlib.Core.Bool.{Bool, true, false, cond, not, _&&_}
+use mathlib.Core.Bool.{Bool, true, false, cond, _&&_}
 use mathlib.Core.List.{List, [], _∷_}
-use mathlib.Core.Logic.{_⊎_, inl, inr}
 use Prim.Native.Nat.{ℕ, zero, suc, _+_, _-_, _*_, _^_, _≤_, _<_}
-use native.Mathlib.Nat.{add-assoc, le-refl, zero-add}
+use native.Mathlib.Nat.{le-refl}
 use native.Mathlib.Omega.{arith}
 use lib.Dec.{ltb, leb, eqb}
-use lib.ListN.{length, take, drop, replicate, length-replicate, length-drop, length-take}
-use lib.Seq.{drop-drop, length-take-le}
+use lib.ListN.{length, drop, length-replicate, length-drop}
+use lib.Seq.{drop-drop}
 use mir.Syntax.{w64}
 use mir.Val.{Fits}
-use types.Run.{OneOf}
-use denote.Enum as enum
-use borrow.Author.Tests.{eq-eqb, ne-eqb, lt-ltb, le-ltb, le-leb, lt-leb, ltb-true, ltb-false}
+use borrow.Author.Tests.{ltb-true}
 use Rattle.items.specs.Names.{nameRoom}
 use Rattle.items.proofs.Bools.{and-left}
 use Rattle.items.specs.Table.{mostItems}
@@ -22,20 +19,17 @@ use Rattle.items.specs.Lookup.{findIn}
 use Rattle.rules.specs.Accepted.{mostRules, mostLeft}
 use Rattle.rules.specs.Table.{ruleWords}
 use Rattle.tokens.specs.Keys.{keyNumber, nextAllowed}
-use Rattle.tokens.specs.Writing.{over, Put}
 use Rattle.tokens.specs.declared.keys.Key.{Key}
-use Rattle.tokens.proofs.Over.{put-buffer}
 use Rattle.lines.specs.Lines.{lineAt, lineLen}
 use Rattle.lines.specs.declared.Line.{Line}
 use Rattle.lines.specs.declared.ReadLine.{ReadLine}
 use Rattle.lines.proofs.Told.{LineHere, line-here}
-use Rattle.refusals.specs.declared.Fault.{Fault}
 use Rattle.reader.specs.declared.ReadBook.{ReadBook}
 use Rattle.reader.specs.declared.line.Counts.{Counts}
 use Rattle.reader.specs.declared.line.Stepped.{Stepped}
 use Rattle.reader.specs.Names.{rising}
-use Rattle.reader.specs.Lines.{State, start, Result, resultOf, Turn, on, stop, refuse, isAbsent, itemName, leftPlaces, leftNumbers, allFound, itemStep, ruleStep, endStep, keyStep, lineStep, step, emptyNames, emptyWords}
-use Rattle.reader.specs.Reading.{mostText, goOn, readFrom, readText, readAnswer, fitted, itemsAfter, rulesAfter, ReadSays}
+use Rattle.reader.specs.Lines.{State, start, Result, Turn, on, stop, isAbsent, itemName, leftPlaces, leftNumbers, allFound, itemStep, ruleStep, endStep, keyStep, lineStep, step}
+use Rattle.reader.specs.Reading.{goOn, readFrom, readText}
 use Rattle.reader.specs.Inner.{stateOf, turnOf, Ready, StartsEmpty, resultIs}
 
 -- At most 256 items and 1,024 rules.
@@ -62,7 +56,7 @@ abbrev pub TurnSays : State → List ℕ → Turn → Type 0
 TurnSays st l (on next k) = Went st l next k
 TurnSays st l (stop r) = AnswerFew (r .answer)
 
-either : (P : Turn → Type 0) (b : Bool) (x y : Turn) → (b ≡ true → P x) → P y → P (cond b x y)
+pub either : (P : Turn → Type 0) (b : Bool) (x y : Turn) → (b ≡ true → P x) → P y → P (cond b x y)
 either P true x y p q = p refl
 either P false x y p q = q
 
@@ -138,7 +132,7 @@ unfolding readFrom
 read-says zero st l few = tt
 read-says (suc f) st l few = go-says f st l (step st l) (step-says st l few) (λ next k h. read-says f next (drop k l) h)
 
-start-few : Few (start .counts)
+pub start-few : Few (start .counts)
 start-few = record { items = omega arith; rules = omega arith }
 
 pub read-few : (l : List ℕ) (n m : ℕ) → readText l .answer ≡ ReadBook.Book n m → FewRead n m

@@ -20,7 +20,7 @@ use Rattle.reader.specs.declared.line.Counts.{Counts}
 use Rattle.reader.specs.declared.line.Stepped.{Stepped}
 use Rattle.reader.specs.Names.{everyItem, numbersOf}
 use Rattle.reader.specs.Lines.{State, Result, Turn, on, stop, emptyNames, emptyWords, itemStep, endStep}
-use Rattle.reader.specs.Reading.{mostText}
+use Rattle.refusals.specs.Numbers.{mostText}
 
 abbrev pub stateOf : Counts → List ℕ → List ℕ → State
 stateOf c names words = record { counts = c; names = names; words = words }

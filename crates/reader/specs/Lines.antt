@@ -86,13 +86,13 @@ itemStep st l x =
     (refuse st Fault.TooMany)
 
 -- A rule's kind by its key, its eight left places, and its thirteen words.
-abbrev pub kindOf : Key → ℕ
-kindOf Key.Form = 0
-kindOf Key.Item = 0
-kindOf Key.Cap = 0
-kindOf Key.Floor = 1
-kindOf Key.Follow = 2
-kindOf Key.End = 0
+abbrev pub ruleKind : Key → ℕ
+ruleKind Key.Form = 0
+ruleKind Key.Item = 0
+ruleKind Key.Cap = 0
+ruleKind Key.Floor = 1
+ruleKind Key.Follow = 2
+ruleKind Key.End = 0
 
 abbrev pub leftPlaces : List ℕ → List ℕ
 leftPlaces items = over (replicate mostLeft 0) 0 items
@@ -115,7 +115,7 @@ rightFound st l x = rightItemAt (st .names) (st .counts .items) (x .value .right
 
 abbrev pub ruleOf : State → List ℕ → Line → Rule
 ruleOf st l x = record {
-  kind = kindOf (x .key);
+  kind = ruleKind (x .key);
   count = x .value .names;
   left = leftPlaces (leftNumbers st l x);
   right = itemNumber (rightFound st l x);

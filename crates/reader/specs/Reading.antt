@@ -1,7 +1,7 @@
 -- Reading a rulebook: the answer with its number and place, and what is then in the lent tables.
 -- Assumes nothing.
 use mathlib.Core.Path.{_≡_}
-use mathlib.Core.Bool.{Bool, cond, _&&_}
+use mathlib.Core.Bool.{cond, _&&_}
 use mathlib.Core.List.{List}
 use Prim.Native.Nat.{ℕ, zero, suc, _+_, _*_}
 use lib.Dec.{ltb, leb}
@@ -9,7 +9,7 @@ use lib.ListN.{length, take, drop}
 use Rattle.items.specs.Names.{nameRoom}
 use Rattle.rules.specs.Table.{ruleWords}
 use Rattle.tokens.specs.Writing.{over}
-use Rattle.refusals.specs.Numbers.{faultNumber}
+use Rattle.refusals.specs.Numbers.{faultNumber, mostText}
 use Rattle.refusals.specs.declared.Fault.{Fault}
 use Rattle.reader.specs.declared.ReadBook.{ReadBook}
 use Rattle.reader.specs.Lines.{State, start, Result, resultOf, Turn, on, stop, step}
@@ -34,10 +34,6 @@ readFrom (suc f) st l = goOn (λ next k. readFrom f next (drop k l)) (step st l)
 
 abbrev pub readText : List ℕ → Result
 readText l = readFrom (length l) start l
-
--- "Sizes: text at most 32,768 bytes".
-abbrev pub mostText : ℕ
-mostText = 32768
 
 -- "Reading: 1, then the lines, then 11." The lent tables have a bytes and b words.
 abbrev pub fitted : ℕ → ℕ → ReadBook → ReadBook

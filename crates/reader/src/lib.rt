@@ -7,14 +7,12 @@ use line::Counts;
 use line::Stepped;
 use line::step;
 use refusals::Fault;
+use refusals::MOST_TEXT;
 use tokens::write::put;
 use words::put_words;
 ghost use mathlib.Core.Path.{_≡_};
 ghost use Rattle.reader.specs.Reading.{ReadSays, readText};
 ghost use Rattle.reader.specs.Inner.{StartsEmpty, resultIs};
-
-// The most bytes of a text.
-pub const MOST_TEXT: usize = 32768;
 
 // What reading answers: the number of items and the number of rules; or why it refuses, with the line, or 0.
 pub enum ReadBook {

@@ -21,7 +21,7 @@ ghost use mathlib.Core.Path.{_≡_};
 ghost use Prim.Native.Nat.{_+_, _≤_};
 ghost use lib.ListN.{drop};
 ghost use Rattle.lines.specs.Lines.{lineAt, lineLen};
-ghost use Rattle.reader.specs.Lines.{counted, kindOf, ruleStep, step};
+ghost use Rattle.reader.specs.Lines.{counted, ruleKind, ruleStep, step};
 ghost use Rattle.reader.specs.Inner.{stateOf, turnOf, Ready, LineReady, ItemReady, RuleReady, refusedAt, ItemStepped, EndStepped};
 
 // How many lines have been read, which row of the key table is next, and how many items and rules there are.
@@ -162,7 +162,7 @@ fn rule_step(
 
 // A rule's kind by its key.
 fn kind_of(key: Key) -> u64
-    ensures { λ r. ⌜ r ≡ kindOf key ⌝ }
+    ensures { λ r. ⌜ r ≡ ruleKind key ⌝ }
 {
     match key {
         Key::Form => 0,

@@ -1,2 +1,2 @@
--- What the contracts of `refusals` cite: the number of each refusal.
+-- What the contracts of `refusals` cite: the number of each refusal, and the size of a text.
 pub mod Numbers

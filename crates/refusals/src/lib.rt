@@ -1,6 +1,9 @@
-// The refusals that document 01 numbers, and the number of each.
+// The refusals that document 01 numbers, the number of each, and the size of a text, past which it is too long.
 ghost use mathlib.Core.Path.{_≡_};
 ghost use Rattle.refusals.specs.Numbers.{faultNumber};
+
+// The most bytes of a text.
+pub const MOST_TEXT: usize = 32768;
 
 // What a refusal is for, in the order of the numbers.
 pub enum Fault {

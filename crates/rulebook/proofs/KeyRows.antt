@@ -17,7 +17,7 @@ use Rattle.tokens.specs.Keys.{keyNumber, nextAllowed}
 use Rattle.tokens.specs.declared.keys.Key.{Key}
 use Rattle.tokens.proofs.KeyTexts.{next-past-rows, next-past-columns}
 use Rattle.lines.specs.declared.Line.{Line}
-use Rattle.reader.specs.Lines.{State, kindOf, ruleStep, keyStep}
+use Rattle.reader.specs.Lines.{State, ruleKind, ruleStep, keyStep}
 
 abbrev mayCome : ℕ → ℕ → Bool
 mayCome after key = cond (eqb key 0) (eqb after 0) (leb 1 after && leb after (key + 1))
@@ -84,7 +84,7 @@ abbrev pub keyOfKind : ℕ → Key
 keyOfKind k = byKind k Key.Cap Key.Floor Key.Follow
 
 pub record KindKey (k : ℕ) : Type 0 where
-  pub kind : kindOf (keyOfKind k) ≡ k
+  pub kind : ruleKind (keyOfKind k) ≡ k
   pub number : keyNumber (keyOfKind k) ≡ suc (1 + k)
 
 pub kind-key : (k : ℕ) → k ≤ 2 → KindKey k

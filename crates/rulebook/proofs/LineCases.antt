@@ -21,7 +21,7 @@ use Rattle.lines.specs.declared.ReadLine.{ReadLine}
 use Rattle.refusals.specs.declared.Fault.{Fault}
 use Rattle.reader.specs.declared.ReadBook.{ReadBook}
 use Rattle.reader.specs.Names.{isItem, everyItem, rising}
-use Rattle.reader.specs.Lines.{State, Result, resultOf, Turn, on, stop, refuse, counted, itemName, isAbsent, withItem, itemStep, kindOf, leftPlaces, leftNumbers, rightFound, withRule, allFound, ruleStep, endStep, keyStep, lineStep, step}
+use Rattle.reader.specs.Lines.{State, Result, resultOf, Turn, on, stop, refuse, counted, itemName, isAbsent, withItem, itemStep, ruleKind, leftPlaces, leftNumbers, rightFound, withRule, allFound, ruleStep, endStep, keyStep, lineStep, step}
 use Rattle.reader.specs.Reading.{goOn, readFrom}
 use Rattle.rulebook.proofs.KeyRows.{next-form, NextRow, next-row, keyOfKind}
 use Rattle.rulebook.proofs.LineFacts.{LineHere, line-here, FormValue, ItemValue, EndValue, RuleValue, form-value, item-value, end-value, cap-value, floor-value, follow-value}
@@ -44,10 +44,10 @@ module _ (st : State) (l : List ℕ) (x : Line) where
 
   pub record RuleRead : Type 0 where
     pub here : LineHere l x
-    pub keyed : x .key ≡ keyOfKind (kindOf (x .key))
-    pub number : keyNumber (x .key) ≡ 2 + kindOf (x .key)
-    pub row : NextRow (st .counts .after) (2 + kindOf (x .key))
-    pub value : RuleValue (kindOf (x .key)) (drop (x .from) l) (x .value)
+    pub keyed : x .key ≡ keyOfKind (ruleKind (x .key))
+    pub number : keyNumber (x .key) ≡ 2 + ruleKind (x .key)
+    pub row : NextRow (st .counts .after) (2 + ruleKind (x .key))
+    pub value : RuleValue (ruleKind (x .key)) (drop (x .from) l) (x .value)
     pub few : st .counts .rules < mostRules
     pub short : x .value .names ≤ mostLeft
     pub found : everyItem (st .names) (st .counts .items) (x .value .names) (drop (x .from) l) ≡ true
@@ -100,8 +100,8 @@ module _ (st : State) (l : List ℕ) (P : State → ℕ → Type 0) (Q : Result 
       few true e = new (ltb-true (st .counts .items) mostItems e) (isAbsent (findIn (st .names) (st .counts .items) (itemName l x))) refl
       few false e = cases .refused _ _
 
-  module _ (keyed : x .key ≡ keyOfKind (kindOf (x .key))) (number : keyNumber (x .key) ≡ 2 + kindOf (x .key))
-      (row : NextRow (st .counts .after) (2 + kindOf (x .key))) (value : RuleValue (kindOf (x .key)) (drop (x .from) l) (x .value)) where
+  module _ (keyed : x .key ≡ keyOfKind (ruleKind (x .key))) (number : keyNumber (x .key) ≡ 2 + ruleKind (x .key))
+      (row : NextRow (st .counts .after) (2 + ruleKind (x .key))) (value : RuleValue (ruleKind (x .key)) (drop (x .from) l) (x .value)) where
     abbrev room : Bool
     room = ltb (st .counts .rules) mostRules && leb (x .value .names) mostLeft
 

@@ -26,7 +26,7 @@ use Rattle.tokens.proofs.Tokens.{count-is-text, class-is-text}
 use Rattle.lines.specs.Lines.{lineLen}
 use Rattle.lines.specs.declared.Line.{Line}
 use Rattle.reader.specs.Names.{firstName, isItem, itemNumber, everyItem, numbersOf}
-use Rattle.reader.specs.Lines.{State, itemName, kindOf, ruleOf}
+use Rattle.reader.specs.Lines.{State, itemName, ruleKind, ruleOf}
 use Rattle.writer.specs.Texts.{pieces, formLine, endLine, leftPiece, leftText, rightText, ruleKey, ruleLine}
 use Rattle.rulebook.proofs.LineFacts.{LeftNames, name-run, take-byte, line-text}
 use Rattle.rulebook.proofs.LineCases.{FormRead, ItemRead, RuleRead, EndRead}
@@ -146,12 +146,12 @@ module _ (st : State) (l : List ℕ) (x : Line) where
     rule-parts k y e f =
         ap (λ (j : ℕ). take j value) e ∙ take-add (x .value .left + 1) k value ∙ ap₂ _++_ rule-left f
 
-    class-parts : kindOf (x .key) < 2 → take (x .value .len) value ≡ leftText t rule ++ classText (x .value .class)
+    class-parts : ruleKind (x .key) < 2 → take (x .value .len) value ≡ leftText t rule ++ classText (x .value .class)
     class-parts z =
         let tail = h .value .classed z in
         rule-parts (tail .width) (classText (x .value .class)) (tail .size) (class-is-text _ _ _ (tail .class) .text)
 
-    name-parts : kindOf (x .key) ≡ 2 → take (x .value .len) value ≡ leftText t rule ++ nameOf t (rule .right)
+    name-parts : ruleKind (x .key) ≡ 2 → take (x .value .len) value ≡ leftText t rule ++ nameOf t (rule .right)
     name-parts z = rule-parts (x .value .right) (nameOf t (rule .right)) (h .value .named z .size) (sym named)
       where
         place : drop (x .from + x .value .left + 1) l ≡ drop (x .value .left + 1) value
@@ -170,5 +170,5 @@ module _ (st : State) (l : List ℕ) (x : Line) where
       where
         parts : take (x .value .len) value ≡ leftText t rule ++ rightText t rule
         parts =
-            by-kind (λ (y : List ℕ). take (x .value .len) value ≡ leftText t rule ++ y) (kindOf (x .key)) (h .value .known)
+            by-kind (λ (y : List ℕ). take (x .value .len) value ≡ leftText t rule ++ y) (ruleKind (x .key)) (h .value .known)
             (λ z. class-parts (omega arith)) (λ z. class-parts (omega arith)) name-parts

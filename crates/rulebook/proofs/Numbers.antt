@@ -20,7 +20,7 @@ use Rattle.tokens.proofs.Tokens.{class-is-text}
 use Rattle.lines.proofs.Sides.{name-some}
 use Rattle.lines.specs.declared.Line.{Line}
 use Rattle.reader.specs.Names.{firstName, restNames, isItem, itemNumber, everyItem, numbersOf, rising}
-use Rattle.reader.specs.Lines.{State, kindOf, leftPlaces, leftNumbers, rightItemAt, rightFound, ruleOf}
+use Rattle.reader.specs.Lines.{State, ruleKind, leftPlaces, leftNumbers, rightItemAt, rightFound, ruleOf}
 use Rattle.rulebook.proofs.LineFacts.{names-some}
 use Rattle.rulebook.proofs.LineCases.{RuleRead}
 use Rattle.rulebook.proofs.Entries.{places-at}
@@ -80,17 +80,17 @@ module _ (st : State) (l : List ℕ) (x : Line) (h : RuleRead st l x) where
   }
 
   level-low : x .value .class .level ≤ 15
-  level-low = go (decLt (kindOf (x .key)) 2)
+  level-low = go (decLt (ruleKind (x .key)) 2)
     where
-      go : Dec (kindOf (x .key) < 2) → x .value .class .level ≤ 15
+      go : Dec (ruleKind (x .key) < 2) → x .value .class .level ≤ 15
       go (yes z) = class-is-text _ _ _ (h .value .classed z .class) .class .level
       go (no z) = rw (h .value .named (omega (arith, h .value .known)) .class) (omega arith)
 
-  pub right-name : kindOf (x .key) ≡ 2
+  pub right-name : ruleKind (x .key) ≡ 2
       → rightFound st l x ≡ findIn (st .names) (st .counts .items) (take (x .value .right) (drop (x .from + x .value .left + 1) l))
   right-name z = right-some (st .names) (st .counts .items) (x .value .right) _ (name-some _ _ (h .value .named z .name))
 
-  right-below : kindOf (x .key) ≡ 2 → itemNumber (rightFound st l x) < st .counts .items
+  right-below : ruleKind (x .key) ≡ 2 → itemNumber (rightFound st l x) < st .counts .items
   right-below z = rw (right-name z) (item-below (st .names) (st .counts .items) _ (rw (right-name z) at (h .right)))
 
   pub rule-accepted : RuleAccepted (st .counts .items) (ruleOf st l x)

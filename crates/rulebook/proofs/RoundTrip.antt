@@ -17,7 +17,8 @@ use Rattle.tokens.specs.Writing.{over}
 use Rattle.refusals.specs.declared.Fault.{Fault}
 use Rattle.reader.specs.declared.ReadBook.{ReadBook}
 use Rattle.reader.specs.Lines.{Result}
-use Rattle.reader.specs.Reading.{readText, mostText, fitted, readAnswer, ReadSays}
+use Rattle.refusals.specs.Numbers.{mostText}
+use Rattle.reader.specs.Reading.{readText, fitted, readAnswer, ReadSays}
 use Rattle.writer.specs.declared.Written.{Written}
 use Rattle.writer.specs.Texts.{bookText}
 use Rattle.writer.specs.Writing.{Tables, WriteSays, bad-table, too-long, no-room, written}

@@ -13,7 +13,8 @@ use borrow.Author.Tests.{eq-eqb, ne-eqb, lt-leb}
 use Rattle.tokens.specs.Writing.{Put}
 use Rattle.tokens.proofs.Over.{over-length, over-over, put-buffer, put-next}
 use Rattle.writer.specs.Texts.{pieces}
-use Rattle.writer.specs.Pushing.{mostText, Grown}
+use Rattle.refusals.specs.Numbers.{mostText}
+use Rattle.writer.specs.Pushing.{Grown}
 
 -- One piece: p is what putting it answered.
 module _ {d : List ℕ} {at : ℕ} {x d′ : List ℕ} {p r : ℕ} (put : Put d at x d′ p) (some : 1 ≤ length x) (e : r ≡ cond (eqb p at) 32769 p) where

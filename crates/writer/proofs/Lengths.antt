@@ -19,7 +19,7 @@ use Rattle.tokens.specs.declared.keys.Key.{Key}
 use Rattle.tokens.proofs.Values.{digits-length, decimal-most, decimal-short}
 use Rattle.tokens.proofs.Tokens.{class-length}
 use Rattle.writer.specs.Texts.{pieces, formLine, endLine, labelKey, labelLine, labelsText}
-use Rattle.writer.specs.Pushing.{mostText}
+use Rattle.refusals.specs.Numbers.{mostText}
 use Rattle.writer.proofs.Growing.{pieces-none, pieces-snoc}
 
 -- Pieces of at most 43 bytes each.

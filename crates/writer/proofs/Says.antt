@@ -17,7 +17,8 @@ use Rattle.tokens.specs.Writing.{Put}
 use Rattle.tokens.proofs.Over.{take-over, put-buffer}
 use Rattle.writer.specs.declared.Written.{Written}
 use Rattle.writer.specs.Texts.{bookText, labelsText}
-use Rattle.writer.specs.Pushing.{mostText, Grown}
+use Rattle.refusals.specs.Numbers.{mostText}
+use Rattle.writer.specs.Pushing.{Grown}
 use Rattle.writer.specs.Writing.{Tables, CopySays, roomless, copied, WriteSays, bad-table, too-long, no-room, written}
 use Rattle.writer.specs.Writing.{Labels, LabelsSays, bad-items, few-labels, bad-label, short-buffer, labelled}
 use Rattle.writer.proofs.Lengths.{labels-short}

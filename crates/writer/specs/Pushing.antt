@@ -8,10 +8,7 @@ use Rattle.items.specs.Table.{ItemsOk}
 use Rattle.rules.specs.Accepted.{RuleAccepted}
 use Rattle.rules.specs.declared.Rule.{Rule}
 use Rattle.tokens.specs.Writing.{over}
-
--- "Sizes: text at most 32,768 bytes".
-abbrev pub mostText : ℕ
-mostText = 32768
+use Rattle.refusals.specs.Numbers.{mostText}
 
 -- The text x was to come at a place of the buffer d, which is now d′, and r is the next place: x stands there if it has room, and else the next
 -- place is past every text.

@@ -8,11 +8,10 @@ use Rattle.labels.specs.First.{AllBelow, FirstFailing}
 use Rattle.labels.specs.Labels.{LevelInRange, Room}
 use Rattle.rules.specs.Accepted.{TableAccepted}
 use Rattle.tokens.specs.Writing.{over}
-use Rattle.refusals.specs.Numbers.{faultNumber}
+use Rattle.refusals.specs.Numbers.{faultNumber, mostText}
 use Rattle.refusals.specs.declared.Fault.{Fault}
 use Rattle.writer.specs.declared.Written.{Written}
 use Rattle.writer.specs.Texts.{bookText, labelsText}
-use Rattle.writer.specs.Pushing.{mostText}
 
 -- The answer's number in document 01, 0 where it is no refusal, and its place.
 abbrev pub writtenNumber : Written → ℕ

@@ -6,10 +6,8 @@ mod labelled;
 mod push;
 
 use refusals::Fault;
+use refusals::MOST_TEXT;
 ghost use Rattle.writer.specs.Writing.{WriteSays, LabelsSays, CopySays};
-
-// The most bytes of a text.
-pub const MOST_TEXT: usize = 32768;
 
 // What writing answers: the length of the text; or why it refuses, with its place.
 pub enum Written {
