@@ -1,6 +1,7 @@
--- Why it is true: one rule of each kind, one law for each answer of checking, that the answer is the only one,
+-- Why it is true: one rule of each kind, one law for each answer of checking, the walk over a list, that the answer is the only one,
 -- and that `Met` is answered exactly of a labelling.
 pub mod Meets
 pub mod Says
+pub mod Walking
 pub mod Unique
 pub mod Labellings

@@ -1,6 +1,8 @@
-// Checking: whether labels meet one rule, and the first rule of a table that they do not meet.
+// Checking: whether labels meet one rule, and the first rule of a table or of a list that they do not meet.
 //
 // Labels are lent as two slices, levels and marks. Nothing is written, and nothing is required.
+pub mod list;
+
 use labels::first_bad;
 use labels::has_room;
 use rules::CAP;
@@ -15,6 +17,7 @@ ghost use Rattle.rules.specs.Table.{recordAt};
 ghost use Rattle.rules.specs.Accepted.{TableAccepted};
 ghost use Rattle.checker.specs.Answer.{said};
 ghost use Rattle.checker.specs.Checking.{RuleMet, CheckSays};
+ghost use Rattle.checker.specs.Judging.{Judges};
 
 // What checking answers: every rule is met, or the number of the first one that is not, from 0 in table order; or why it refuses, for a bad
 // label with the number of the item.
@@ -49,6 +52,13 @@ pub fn check(rules: &[u64], m: usize, n: usize, levels: &[u64], marks: &[u64]) -
     if !rules::rules_ok(rules, m, n) {
         return Checked::BadTable;
     }
+    judged(first_unmet(rules, m, levels, marks), m, n, levels, marks)
+}
+
+// What is answered of m accepted rules and n items, where the search for a rule that is not met told this number.
+pub(crate) fn judged(unmet: usize, m: usize, n: usize, levels: &[u64], marks: &[u64]) -> Checked
+    ensures { λ r. ⌜ Judges unmet m n (now (levels .entry)) (now (marks .entry)) (said r) ⌝ }
+{
     if !has_room(levels, marks, n) {
         return Checked::NoRoom;
     }
@@ -56,7 +66,6 @@ pub fn check(rules: &[u64], m: usize, n: usize, levels: &[u64], marks: &[u64]) -
     if bad < n {
         return Checked::BadLabel(bad);
     }
-    let unmet = first_unmet(rules, m, levels, marks);
     if unmet < m {
         return Checked::Unmet(unmet);
     }

@@ -1,48 +1,36 @@
--- `checker::check` meets its contract: one law for each answer, from what the tests before it tell.
+-- `checker::check` meets its contract: rules that are not accepted, and rules that are.
 -- Assumes nothing.
 use Rattle.classes.proofs.Tells.{told-no, told-yes}
-use Rattle.checker.proofs.Says.{says-bad-table, says-no-room, says-bad-label, says-unmet, says-met}
+use Rattle.checker.proofs.Says.{says-bad-table, judges-accepted}
 use borrow.Author.Needs.{needs}
 use Rattle.checker.proofs.check.Statement.{statement}
 use Rattle.checker.proofs.check.Tie as tie
+use Rattle.checker.proofs.check.Reads as reads
+use Rattle.checker.proofs.check.Lts as lts
+use Rattle.checker.proofs.first_unmet.Reads as first-unmet-reads
+use Rattle.checker.proofs.judged.Reads as judged-reads
+use Rattle.rules.proofs.rules_ok.Reads as rules-ok-reads
 
+-- src/lib.rt:52:9
 rules-ok-requires : tie.Need-rules-ok-requires
 rules-ok-requires c κs = search needs
 
+-- src/lib.rt:53:9
 returns : tie.Need-returns
 returns c = search (says-bad-table, told-no, needs)
 
-has-room-requires : tie.Need-has-room-requires
-has-room-requires c κs = search needs
-
-returns-2 : tie.Need-returns-2
-returns-2 c = says-no-room (told-yes (c .before .before .before .rules-ok .ensures) (c .before .before .if1 .left)) (told-no (c .before .has-room .ensures) (c .if2 .taken))
-
-first-bad-requires : tie.Need-first-bad-requires
-first-bad-requires c κs = search needs
-
-returns-3 : tie.Need-returns-3
-returns-3 c = says-bad-label (told-yes (c .before .before .before .before .before .rules-ok .ensures) (c .before .before .before .before .if1 .left)) (told-yes (c .before .before .before .has-room .ensures) (c .before .before .if2 .left)) (c .before .first-bad .ensures) (c .if3 .taken)
-
+-- src/lib.rt:55:12
 first-unmet-requires : tie.Need-first-unmet-requires
 first-unmet-requires c κs = search needs
 
-returns-4 : tie.Need-returns-4
-returns-4 c = says-unmet (told-yes (c .before .before .before .before .before .before .before .rules-ok .ensures) (c .before .before .before .before .before .before .if1 .left)) (told-yes (c .before .before .before .before .before .has-room .ensures) (c .before .before .before .before .if2 .left)) (c .before .before .before .first-bad .ensures) (c .before .before .if3 .left) (c .before .first-unmet .ensures) (c .if4 .taken)
+-- src/lib.rt:55:5
+judged-requires : tie.Need-judged-requires
+judged-requires c κs = search needs
 
-returns-5 : tie.Need-returns-5
-returns-5 c = says-met (told-yes (c .before .before .before .before .before .before .before .rules-ok .ensures) (c .before .before .before .before .before .before .if1 .left)) (told-yes (c .before .before .before .before .before .has-room .ensures) (c .before .before .before .before .if2 .left)) (c .before .before .before .first-bad .ensures) (c .before .before .if3 .left) (c .before .first-unmet .ensures) (c .if4 .left)
+-- src/lib.rt:49:1
+returns-2 : tie.Need-returns-2
+returns-2 c = judges-accepted (told-yes (c .before .before .before .rules-ok .ensures) (c .before .before .if1 .left)) (c .judged .ensures) (c .before .first-unmet .ensures)
 
 pub check-spec : {M : Type 1} → statement M
 check-spec =
-    tie.close
-    (tie.spec
-    rules-ok-requires
-    returns
-    has-room-requires
-    returns-2
-    first-bad-requires
-    returns-3
-    first-unmet-requires
-    returns-4
-    returns-5)
+    tie.close (tie.spec rules-ok-requires returns first-unmet-requires judged-requires returns-2)

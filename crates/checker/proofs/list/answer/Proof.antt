@@ -1,0 +1,34 @@
+-- `checker::list::answer` meets its contract.
+-- Assumes nothing.
+use Rattle.classes.proofs.Tells.{told-no, told-yes}
+use Rattle.checker.proofs.Walking.{concludes-sizes, concludes-order, concludes-judged}
+use borrow.Author.Needs.{needs}
+use Rattle.checker.proofs.list.answer.Statement.{statement}
+use Rattle.checker.proofs.list.answer.Tie as tie
+use Rattle.checker.proofs.list.answer.Reads as reads
+use Rattle.checker.proofs.list.answer.Lts as lts
+use Rattle.checker.proofs.judged.Reads as judged-reads
+use Rattle.checker.proofs.list.sizes_ok.Reads as sizes-ok-reads
+
+-- src/list.rt:118:9
+sizes-ok-requires : tie.Need-sizes-ok-requires
+sizes-ok-requires c κs = search needs
+
+-- src/list.rt:119:9
+returns : tie.Need-returns
+returns c = search (concludes-sizes, told-no, needs)
+
+-- src/list.rt:122:9
+returns-2 : tie.Need-returns-2
+returns-2 c = concludes-order (told-yes (c .before .before .before .sizes-ok .ensures) (c .before .before .if1 .left)) (c .if2 .taken)
+
+-- src/list.rt:124:5
+judged-requires : tie.Need-judged-requires
+judged-requires c κs = search needs
+
+-- src/list.rt:115:1
+returns-3 : tie.Need-returns-3
+returns-3 c = concludes-judged (told-yes (c .before .before .before .before .sizes-ok .ensures) (c .before .before .before .if1 .left)) (c .before .if2 .left) (c .judged .ensures)
+
+pub answer-spec : {M : Type 1} → statement M
+answer-spec = tie.close (tie.spec sizes-ok-requires returns returns-2 judged-requires returns-3)

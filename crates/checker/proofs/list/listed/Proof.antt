@@ -1,0 +1,24 @@
+-- `checker::list::listed` meets its contract.
+-- Assumes nothing.
+use Rattle.checker.proofs.Walking.{count-all, count-none}
+use borrow.Author.Needs.{needs}
+use Rattle.checker.proofs.list.listed.Statement.{statement}
+use Rattle.checker.proofs.list.listed.Tie as tie
+use Rattle.checker.proofs.list.listed.Reads as reads
+use Rattle.checker.proofs.list.listed.Lts as lts
+use Rattle.checker.proofs.list.sizes_ok.Reads as sizes-ok-reads
+
+-- src/list.rt:63:8
+sizes-ok-requires : tie.Need-sizes-ok-requires
+sizes-ok-requires c κs = search needs
+
+-- src/list.rt:60:1
+returns : tie.Need-returns
+returns c = search (count-all, needs)
+
+-- src/list.rt:60:1
+returns-2 : tie.Need-returns-2
+returns-2 c = search (count-none, needs)
+
+pub listed-spec : {M : Type 1} → statement M
+listed-spec = tie.close (tie.spec sizes-ok-requires returns returns-2)

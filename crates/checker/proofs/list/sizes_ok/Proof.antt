@@ -1,0 +1,23 @@
+-- `checker::list::sizes_ok` meets its contract.
+-- Assumes nothing.
+use Rattle.checker.proofs.Walking.{sizes-items, sizes-rules, sizes-room}
+use borrow.Author.Needs.{needs}
+use Rattle.checker.proofs.list.sizes_ok.Statement.{statement}
+use Rattle.checker.proofs.list.sizes_ok.Tie as tie
+use Rattle.checker.proofs.list.sizes_ok.Reads as reads
+use Rattle.checker.proofs.list.sizes_ok.Lts as lts
+
+-- src/list.rt:51:9
+returns : tie.Need-returns
+returns c = search (sizes-items, needs)
+
+-- src/list.rt:54:9
+returns-2 : tie.Need-returns-2
+returns-2 c = search (sizes-rules, needs)
+
+-- src/list.rt:47:1
+returns-3 : tie.Need-returns-3
+returns-3 c = search (sizes-room, needs)
+
+pub sizes-ok-spec : {M : Type 1} → statement M
+sizes-ok-spec = tie.close (tie.spec returns returns-2 returns-3)

@@ -1,0 +1,29 @@
+-- `checker::list::unmet_after` meets its contract.
+-- Assumes nothing.
+use Rattle.classes.proofs.Tells.{told-no, told-yes}
+use Rattle.checker.proofs.Walking.{sought-earlier, sought-now, sought-none}
+use borrow.Author.Needs.{needs}
+use Rattle.checker.proofs.list.unmet_after.Statement.{statement}
+use Rattle.checker.proofs.list.unmet_after.Tie as tie
+use Rattle.checker.proofs.list.unmet_after.Reads as reads
+use Rattle.checker.proofs.list.unmet_after.Lts as lts
+use Rattle.checker.proofs.met.Reads as met-reads
+
+-- src/list.rt:106:9
+returns : tie.Need-returns
+returns c = search (sought-earlier, needs)
+
+-- src/list.rt:108:9
+met-requires : tie.Need-met-requires
+met-requires c κs = search needs
+
+-- src/list.rt:109:9
+returns-2 : tie.Need-returns-2
+returns-2 c = search (sought-now, told-no, needs)
+
+-- src/list.rt:102:1
+returns-3 : tie.Need-returns-3
+returns-3 c = sought-none (c .before .before .if1 .left) (told-yes (c .before .met .ensures) (c .if2 .left))
+
+pub unmet-after-spec : {M : Type 1} → statement M
+unmet-after-spec = tie.close (tie.spec returns met-requires returns-2 returns-3)
