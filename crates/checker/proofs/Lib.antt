@@ -1,7 +1,8 @@
--- Why it is true: one rule of each kind, one law for each answer of checking, the walk over a list, that the answer is the only one,
+-- Why it is true: one rule of each kind, one law for each answer of checking, the walk over a list, that the answer is the only one and one for a table and a list,
 -- and that `Met` is answered exactly of a labelling.
 pub mod Meets
 pub mod Says
 pub mod Walking
 pub mod Unique
+pub mod Alike
 pub mod Labellings
