@@ -1,6 +1,7 @@
 // The six keys: which one stands at a place of a text, and which may come next.
 //
-// Every function takes any place and any number. Past a text's end no key stands, and what is no row or no key has no cell in the table.
+// Every function takes any place and any number. Past a text's end no key stands, and a number that is no row or no column of the table is
+// answered no.
 ghost use mathlib.Core.Path.{_≡_};
 ghost use lib.ListN.{drop};
 ghost use Rattle.keys.specs.Keys.{startsWith, foundOr, keyAt, keyNumber, nextAllowed};
@@ -112,7 +113,7 @@ fn key_or(s: &[u8], at: usize, text: &[u8], key: Key, other: ReadKey) -> ReadKey
     other
 }
 
-// Whether these bytes stand at a place.
+// Whether these bytes stand at a place. Past the text's end only no bytes do.
 fn starts_with(s: &[u8], at: usize, bytes: &[u8]) -> bool
     ensures { λ r. ⌜ r ≡ startsWith (now (bytes .entry)) (drop at (now (s .entry))) ⌝ }
 {
