@@ -7,13 +7,13 @@ use native.Mathlib.Nat.{zero-add}
 use native.Mathlib.Omega.{arith}
 use lib.ListN.{length, length-append}
 use Rattle.refusals.specs.Numbers.{mostText}
-use Rattle.tokens.specs.Keys.{keyText}
+use Rattle.keys.specs.Keys.{keyText}
+use Rattle.keys.specs.declared.Key.{Key}
 use Rattle.tokens.specs.Numbers.{decimalLen}
 use Rattle.tokens.specs.Tokens.{countText}
-use Rattle.tokens.specs.Writing.{Put}
-use Rattle.tokens.specs.declared.keys.Key.{Key}
-use Rattle.tokens.proofs.Over.{over-length, take-over, put-buffer, put-next, put-put}
 use Rattle.tokens.proofs.Values.{digits-length, decimal-most}
+use Rattle.puts.specs.Writing.{Put}
+use Rattle.puts.proofs.Over.{over-length, take-over, put-buffer, put-next, put-put}
 use Rattle.writer.specs.Texts.{formLine}
 use Rattle.answers.specs.Answering.{countLine, refusedKey, atKey, refusalText}
 use Rattle.answers.specs.Inner.{Whole, LineRoom, FrontIs}

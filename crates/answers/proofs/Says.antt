@@ -12,8 +12,8 @@ use Rattle.labelling.specs.Parts.{Refused}
 use Rattle.labels.proofs.First.{first-not-all}
 use Rattle.rules.specs.Table.{bookOf}
 use Rattle.rules.specs.Accepted.{TableAccepted}
-use Rattle.tokens.specs.Writing.{over, Put}
-use Rattle.tokens.proofs.Over.{over-length, put-buffer}
+use Rattle.puts.specs.Writing.{over, Put}
+use Rattle.puts.proofs.Over.{over-length, put-buffer}
 use Rattle.refusals.specs.Numbers.{faultNumber}
 use Rattle.refusals.specs.declared.Fault.{Fault}
 use Rattle.reader.specs.Reading.{ReadSays}

@@ -7,9 +7,9 @@ use Prim.Native.Nat.{ℕ, _≤_}
 use native.Mathlib.Omega.{arith}
 use lib.ListN.{length, length-append}
 use Rattle.items.specs.Table.{ItemsOk}
-use Rattle.tokens.specs.Keys.{keyText}
-use Rattle.tokens.specs.declared.keys.Key.{Key}
-use Rattle.tokens.proofs.Over.{over-length}
+use Rattle.keys.specs.Keys.{keyText}
+use Rattle.keys.specs.declared.Key.{Key}
+use Rattle.puts.proofs.Over.{over-length}
 use Rattle.refusals.specs.declared.Fault.{Fault}
 use Rattle.refusals.specs.Numbers.{mostText}
 use Rattle.writer.specs.Texts.{formLine}

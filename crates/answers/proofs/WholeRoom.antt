@@ -11,7 +11,7 @@ use lib.Seq.{length-take-le}
 use borrow.Author.Tests.{le-leb}
 use Rattle.items.specs.Names.{nameRoom}
 use Rattle.rules.specs.Table.{ruleWords}
-use Rattle.tokens.specs.Writing.{over}
+use Rattle.puts.specs.Writing.{over}
 use Rattle.refusals.specs.declared.Fault.{Fault}
 use Rattle.refusals.specs.Numbers.{mostText}
 use Rattle.reader.specs.Reading.{readText, fitted, readAnswer, readNumber, ReadSays}

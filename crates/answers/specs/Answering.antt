@@ -11,9 +11,9 @@ use Rattle.labelling.specs.Labelling.{Wanted}
 use Rattle.labelling.specs.Parts.{Refused}
 use Rattle.rules.specs.Record.{labelsIn}
 use Rattle.rules.specs.Table.{bookOf}
-use Rattle.tokens.specs.Keys.{keyText}
+use Rattle.keys.specs.Keys.{keyText}
+use Rattle.keys.specs.declared.Key.{Key}
 use Rattle.tokens.specs.Tokens.{countText}
-use Rattle.tokens.specs.declared.keys.Key.{Key}
 use Rattle.refusals.specs.Numbers.{faultNumber, mostText}
 use Rattle.refusals.specs.declared.Fault.{Fault}
 use Rattle.reader.specs.Reading.{readText}

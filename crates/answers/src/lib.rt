@@ -1,15 +1,15 @@
 // The answer to a whole text: a rulebook goes in as text, and its labels or its refusal come out as text.
+use puts::put;
+use puts::put_count;
 use reader::ReadBook;
 use reader::read;
 use refusals::Fault;
 use refusals::fault_number;
 use solver::Solved;
 use solver::solve;
-use tokens::write::put;
-use tokens::write::put_count;
 use writer::Written;
 use writer::write_labels;
-ghost use Rattle.tokens.specs.Writing.{Put};
+ghost use Rattle.puts.specs.Writing.{Put};
 ghost use Rattle.writer.specs.Texts.{labelsText};
 ghost use Rattle.answers.specs.Answering.{countLine, refusalText, BookSays, AnswerSays, RoutineSays};
 ghost use Rattle.answers.specs.Inner.{Whole, LineRoom, BookReady, LabelsReady, Front, FrontIs};

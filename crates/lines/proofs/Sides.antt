@@ -12,10 +12,10 @@ use lib.ListN.{length, take, drop, length-drop}
 use lib.Seq.{length-take-le}
 use borrow.Author.Tests.{eq-eqb, ne-eqb, eqb-true}
 use Rattle.items.proofs.Names.{name-spelled}
-use Rattle.tokens.specs.Bytes.{byteAt, runLen}
+use Rattle.scans.specs.Bytes.{byteAt, runLen}
+use Rattle.scans.proofs.Places.{byte-inside}
 use Rattle.tokens.specs.Tokens.{nameOfRun, nameAt}
-use Rattle.tokens.specs.declared.read.ReadName.{ReadName}
-use Rattle.tokens.proofs.Places.{byte-inside}
+use Rattle.tokens.specs.declared.ReadName.{ReadName}
 use Rattle.tokens.proofs.Tokens.{name-is-name}
 use Rattle.lines.specs.Left.{before, afterName, leftFrom, leftAt}
 use Rattle.lines.specs.declared.left.ReadLeft.{ReadLeft}

@@ -17,17 +17,17 @@ use Rattle.classes.specs.Class.{lowest}
 use Rattle.classes.specs.declared.Class.{Class}
 use Rattle.items.specs.Names.{nameRoom}
 use Rattle.items.proofs.Names.{name-spelled}
-use Rattle.tokens.specs.Bytes.{byteAt}
+use Rattle.scans.specs.Bytes.{byteAt}
+use Rattle.scans.proofs.Places.{byte-inside}
+use Rattle.keys.specs.Keys.{keyText, keyAt}
+use Rattle.keys.specs.declared.Key.{Key}
+use Rattle.keys.specs.declared.ReadKey.{ReadKey}
+use Rattle.keys.proofs.KeyTexts.{key-is-text}
 use Rattle.tokens.specs.Tokens.{nameAt, countAt, classAt}
-use Rattle.tokens.specs.Keys.{keyText, keyAt}
-use Rattle.tokens.specs.declared.keys.Key.{Key}
-use Rattle.tokens.specs.declared.keys.ReadKey.{ReadKey}
-use Rattle.tokens.specs.declared.read.ReadName.{ReadName}
-use Rattle.tokens.specs.declared.read.ReadCount.{ReadCount}
-use Rattle.tokens.specs.declared.read.ReadClass.{ReadClass}
-use Rattle.tokens.proofs.Places.{byte-inside}
+use Rattle.tokens.specs.declared.ReadName.{ReadName}
+use Rattle.tokens.specs.declared.ReadCount.{ReadCount}
+use Rattle.tokens.specs.declared.ReadClass.{ReadClass}
 use Rattle.tokens.proofs.Tokens.{name-is-name, class-is-text, count-is-text}
-use Rattle.tokens.proofs.KeyTexts.{key-is-text}
 use Rattle.lines.specs.declared.left.ReadLeft.{ReadLeft}
 use Rattle.lines.specs.declared.value.Value.{Value}
 use Rattle.lines.specs.declared.value.ReadValue.{ReadValue}

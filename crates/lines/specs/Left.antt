@@ -5,9 +5,9 @@ use mathlib.Core.List.{List}
 use Prim.Native.Nat.{ℕ, zero, suc, _+_}
 use lib.Dec.{eqb}
 use lib.ListN.{length, drop}
-use Rattle.tokens.specs.Bytes.{byteAt}
+use Rattle.scans.specs.Bytes.{byteAt}
 use Rattle.tokens.specs.Tokens.{nameAt}
-use Rattle.tokens.specs.declared.read.ReadName.{ReadName}
+use Rattle.tokens.specs.declared.ReadName.{ReadName}
 use Rattle.lines.specs.declared.left.ReadLeft.{ReadLeft}
 
 -- So many names and bytes before what was found.

@@ -5,10 +5,10 @@ use mathlib.Core.List.{List}
 use Prim.Native.Nat.{ℕ, _+_}
 use lib.Dec.{eqb}
 use lib.ListN.{drop}
-use Rattle.tokens.specs.Bytes.{byteAt}
-use Rattle.tokens.specs.Keys.{keyAt}
-use Rattle.tokens.specs.declared.keys.Key.{Key}
-use Rattle.tokens.specs.declared.keys.ReadKey.{ReadKey}
+use Rattle.scans.specs.Bytes.{byteAt}
+use Rattle.keys.specs.Keys.{keyAt}
+use Rattle.keys.specs.declared.Key.{Key}
+use Rattle.keys.specs.declared.ReadKey.{ReadKey}
 use Rattle.lines.specs.declared.value.ReadValue.{ReadValue}
 use Rattle.lines.specs.declared.Line.{Line}
 use Rattle.lines.specs.declared.ReadLine.{ReadLine}

@@ -7,12 +7,12 @@ use lib.Dec.{eqb}
 use lib.ListN.{drop}
 use Rattle.classes.specs.Class.{lowest}
 use Rattle.classes.specs.declared.Class.{Class}
-use Rattle.tokens.specs.Bytes.{byteAt}
+use Rattle.scans.specs.Bytes.{byteAt}
+use Rattle.keys.specs.declared.Key.{Key}
 use Rattle.tokens.specs.Tokens.{nameAt, countAt, classAt}
-use Rattle.tokens.specs.declared.keys.Key.{Key}
-use Rattle.tokens.specs.declared.read.ReadName.{ReadName}
-use Rattle.tokens.specs.declared.read.ReadCount.{ReadCount}
-use Rattle.tokens.specs.declared.read.ReadClass.{ReadClass}
+use Rattle.tokens.specs.declared.ReadName.{ReadName}
+use Rattle.tokens.specs.declared.ReadCount.{ReadCount}
+use Rattle.tokens.specs.declared.ReadClass.{ReadClass}
 use Rattle.lines.specs.declared.left.ReadLeft.{ReadLeft}
 use Rattle.lines.specs.declared.value.ReadValue.{ReadValue}
 use Rattle.lines.specs.Left.{leftAt}

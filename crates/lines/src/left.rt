@@ -1,7 +1,7 @@
 // The left side of a rule: names with plus signs between them.
-use tokens::read::ReadName;
-use tokens::read::read_name;
-use tokens::scan::byte_at;
+use scans::byte_at;
+use tokens::ReadName;
+use tokens::read_name;
 ghost use mathlib.Core.Path.{_≡_};
 ghost use lib.ListN.{drop};
 ghost use Rattle.lines.specs.Left.{leftAt};

@@ -4,10 +4,10 @@
 pub mod left;
 pub mod value;
 
-use tokens::keys::Key;
-use tokens::keys::ReadKey;
-use tokens::keys::read_key;
-use tokens::scan::byte_at;
+use keys::Key;
+use keys::ReadKey;
+use keys::read_key;
+use scans::byte_at;
 use value::ReadValue;
 use value::Value;
 use value::read_value;

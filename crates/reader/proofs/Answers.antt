@@ -11,8 +11,8 @@ use mir.Val.{Fits}
 use borrow.Author.Tests.{lt-ltb, le-ltb, le-leb, lt-leb}
 use Rattle.items.specs.Names.{nameRoom}
 use Rattle.rules.specs.Table.{ruleWords}
-use Rattle.tokens.specs.Writing.{over, Put}
-use Rattle.tokens.proofs.Over.{put-buffer}
+use Rattle.puts.specs.Writing.{over, Put}
+use Rattle.puts.proofs.Over.{put-buffer}
 use Rattle.refusals.specs.declared.Fault.{Fault}
 use Rattle.reader.specs.declared.ReadBook.{ReadBook}
 use Rattle.reader.specs.Lines.{Result, emptyNames, emptyWords}

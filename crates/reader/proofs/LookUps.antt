@@ -23,10 +23,10 @@ use Rattle.items.specs.declared.Found.{Found}
 use Rattle.items.proofs.Found as found
 use Rattle.items.proofs.Bools.{true-not-false}
 use Rattle.items.proofs.Search.{every-all, every-at}
-use Rattle.tokens.specs.Bytes.{runLen}
-use Rattle.tokens.specs.Writing.{over}
-use Rattle.tokens.proofs.Over.{over-none}
-use Rattle.tokens.proofs.Runs.{run-le}
+use Rattle.scans.specs.Bytes.{runLen}
+use Rattle.scans.proofs.Runs.{run-le}
+use Rattle.puts.specs.Writing.{over}
+use Rattle.puts.proofs.Over.{over-none}
 use Rattle.reader.specs.Names.{isItem, itemNumber, everyItem, numbersOf, rising}
 use Rattle.reader.specs.Lines.{rightItemAt}
 use Rattle.refusals.specs.Numbers.{mostText}

@@ -11,8 +11,8 @@ use lib.ListN.{length, drop, length-drop}
 use Rattle.items.specs.Table.{mostItems}
 use Rattle.items.specs.Lookup.{findIn}
 use Rattle.rules.specs.Accepted.{mostRules, mostLeft}
-use Rattle.tokens.specs.Keys.{keyNumber, nextAllowed}
-use Rattle.tokens.specs.declared.keys.Key.{Key}
+use Rattle.keys.specs.Keys.{keyNumber, nextAllowed}
+use Rattle.keys.specs.declared.Key.{Key}
 use Rattle.lines.specs.Lines.{lineAt, lineLen}
 use Rattle.lines.specs.declared.Line.{Line}
 use Rattle.lines.specs.declared.ReadLine.{ReadLine}

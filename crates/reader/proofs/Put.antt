@@ -6,9 +6,9 @@ use Prim.Native.Nat.{ℕ, _+_, _*_, _≤_, _<_}
 use native.Mathlib.Omega.{arith}
 use lib.ListN.{length, set}
 use Rattle.rules.specs.declared.Rule.{Rule}
-use Rattle.tokens.specs.Writing.{over}
-use Rattle.tokens.proofs.Over.{set-over, over-over, put-buffer}
-use Rattle.tokens.proofs.Puts.{Copied, copied-end}
+use Rattle.puts.specs.Writing.{over}
+use Rattle.puts.proofs.Over.{set-over, over-over, put-buffer}
+use Rattle.puts.proofs.Puts.{Copied, copied-end}
 use Rattle.reader.specs.Lines.{wordsOf}
 use Rattle.reader.specs.Inner.{RuleRoom}
 

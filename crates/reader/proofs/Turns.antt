@@ -22,10 +22,10 @@ use Rattle.items.specs.declared.Found.{Found}
 use Rattle.items.proofs.Found as found
 use Rattle.rules.specs.Accepted.{mostRules, mostLeft}
 use Rattle.rules.specs.declared.Rule.{Rule}
-use Rattle.tokens.specs.Keys.{keyNumber, nextAllowed}
-use Rattle.tokens.specs.Writing.{over, Put}
-use Rattle.tokens.specs.declared.keys.Key.{Key}
-use Rattle.tokens.proofs.Over.{put-buffer}
+use Rattle.keys.specs.Keys.{keyNumber, nextAllowed}
+use Rattle.keys.specs.declared.Key.{Key}
+use Rattle.puts.specs.Writing.{over, Put}
+use Rattle.puts.proofs.Over.{put-buffer}
 use Rattle.lines.specs.Lines.{lineAt, lineLen}
 use Rattle.lines.specs.declared.Line.{Line}
 use Rattle.lines.specs.declared.ReadLine.{ReadLine}

@@ -9,8 +9,8 @@ use Rattle.items.specs.Names.{nameRoom}
 use Rattle.items.specs.Table.{mostItems}
 use Rattle.rules.specs.Table.{ruleWords}
 use Rattle.rules.specs.Accepted.{mostRules, mostLeft}
-use Rattle.tokens.specs.Writing.{over}
-use Rattle.tokens.specs.declared.keys.Key.{Key}
+use Rattle.keys.specs.declared.Key.{Key}
+use Rattle.puts.specs.Writing.{over}
 use Rattle.lines.specs.Lines.{lineAt}
 use Rattle.lines.specs.declared.Line.{Line}
 use Rattle.lines.specs.declared.ReadLine.{ReadLine}

@@ -14,9 +14,9 @@ use Rattle.rules.specs.Record.{leftItem}
 use Rattle.rules.specs.Table.{ruleWords}
 use Rattle.rules.specs.Accepted.{mostRules, mostLeft}
 use Rattle.rules.specs.declared.Rule.{Rule}
-use Rattle.tokens.specs.Keys.{keyNumber, nextAllowed}
-use Rattle.tokens.specs.Writing.{over}
-use Rattle.tokens.specs.declared.keys.Key.{Key}
+use Rattle.keys.specs.Keys.{keyNumber, nextAllowed}
+use Rattle.keys.specs.declared.Key.{Key}
+use Rattle.puts.specs.Writing.{over}
 use Rattle.lines.specs.Lines.{lineAt, lineLen}
 use Rattle.lines.specs.declared.Line.{Line}
 use Rattle.lines.specs.declared.ReadLine.{ReadLine}

@@ -9,7 +9,7 @@ use Rattle.items.specs.Search.{everyBelow}
 use Rattle.items.specs.Names.{nameByte}
 use Rattle.items.specs.Lookup.{findIn}
 use Rattle.items.specs.declared.Found.{Found}
-use Rattle.tokens.specs.Bytes.{runLen}
+use Rattle.scans.specs.Bytes.{runLen}
 
 -- The first name, and what stands behind it and the byte that follows it.
 abbrev pub firstName : List ℕ → List ℕ

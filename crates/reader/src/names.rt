@@ -1,8 +1,8 @@
 // The names of a rule, looked up in the item table.
 use items::Found;
 use items::find;
-use tokens::scan::Kind;
-use tokens::scan::run;
+use scans::Kind;
+use scans::run;
 ghost use mathlib.Core.Path.{_≡_};
 ghost use Prim.Native.Nat.{_≤_, min};
 ghost use lib.ListN.{length, take, drop};

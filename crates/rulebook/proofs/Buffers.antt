@@ -10,8 +10,8 @@ use lib.Seq.{length-take-le, getD-take, getD-drop, getD-append-add, drop-at, ext
 use Rattle.items.specs.Names.{nameRoom}
 use Rattle.items.specs.Table.{entryByte}
 use Rattle.items.proofs.Counted.{SameItems}
-use Rattle.tokens.specs.Writing.{over}
-use Rattle.tokens.proofs.Over.{take-over, drop-over}
+use Rattle.puts.specs.Writing.{over}
+use Rattle.puts.proofs.Over.{take-over, drop-over}
 
 -- After a put: before the place, in it, and behind what was put.
 module _ (d : List ℕ) (at : ℕ) (x : List ℕ) (room : at + length x ≤ length d) where

@@ -12,9 +12,9 @@ use Rattle.rules.specs.Record.{byKind}
 use Rattle.rules.specs.Table.{ruleWords, wordAt, recordAt}
 use Rattle.rules.specs.Accepted.{RuleAccepted, Standing}
 use Rattle.rules.specs.declared.Rule.{Rule}
-use Rattle.tokens.specs.Keys.{keyText}
+use Rattle.keys.specs.Keys.{keyText}
+use Rattle.keys.specs.declared.Key.{Key}
 use Rattle.tokens.specs.Tokens.{classText}
-use Rattle.tokens.specs.declared.keys.Key.{Key}
 use Rattle.writer.specs.Texts.{formLine, itemLine, leftPiece, leftText, rightText, ruleKey, ruleLine, endLine, bookText}
 use Rattle.writer.specs.Writing.{Tables}
 use Rattle.rulebook.specs.RoundTrip.{SameTables}

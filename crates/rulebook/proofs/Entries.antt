@@ -22,8 +22,8 @@ use Rattle.items.proofs.Counted.{SameItems, items-counted}
 use Rattle.rules.specs.Table.{ruleWords, wordAt, recordAt}
 use Rattle.rules.specs.Accepted.{mostLeft}
 use Rattle.rules.specs.declared.Rule.{Rule}
-use Rattle.tokens.specs.Writing.{over}
-use Rattle.tokens.proofs.Over.{over-length}
+use Rattle.puts.specs.Writing.{over}
+use Rattle.puts.proofs.Over.{over-length}
 use Rattle.reader.specs.Lines.{leftPlaces, wordsOf}
 use Rattle.rulebook.proofs.Buffers.{over-before, over-inside, over-behind, zeros-at}
 

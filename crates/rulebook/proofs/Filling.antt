@@ -14,7 +14,7 @@ use Rattle.items.specs.declared.Found.{Found}
 use Rattle.items.proofs.Names.{name-spelled}
 use Rattle.items.proofs.Lookup.{HasName, find-is, name-is-name, found-name}
 use Rattle.items.proofs.Counted.{SameItems, find-counted}
-use Rattle.tokens.specs.Writing.{over}
+use Rattle.puts.specs.Writing.{over}
 use Rattle.rulebook.proofs.Buffers.{over-before, zeros-at, SameFront, front-items}
 use Rattle.rulebook.proofs.Entries.{own-name, Spare, added-length, added-has, added-spare}
 

@@ -13,9 +13,9 @@ use Rattle.items.specs.Search.{everyBelow}
 use Rattle.items.proofs.Bools.{true-not-false, and-left, and-right}
 use Rattle.items.proofs.Search.{every-at}
 use Rattle.rules.specs.Record.{byKind}
-use Rattle.tokens.specs.Keys.{keyNumber, nextAllowed}
-use Rattle.tokens.specs.declared.keys.Key.{Key}
-use Rattle.tokens.proofs.KeyTexts.{next-past-rows, next-past-columns}
+use Rattle.keys.specs.Keys.{keyNumber, nextAllowed}
+use Rattle.keys.specs.declared.Key.{Key}
+use Rattle.keys.proofs.KeyTexts.{next-past-rows, next-past-columns}
 use Rattle.lines.specs.declared.Line.{Line}
 use Rattle.reader.specs.Lines.{State, ruleKind, ruleStep, keyStep}
 

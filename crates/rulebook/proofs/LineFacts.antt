@@ -13,16 +13,16 @@ use lib.Seq.{take-suc, take-add}
 use borrow.Author.Tests.{eqb-true}
 use Rattle.classes.specs.Class.{lowest}
 use Rattle.items.specs.Names.{nameRoom, nameByte}
-use Rattle.tokens.specs.Bytes.{byteAt, runLen}
+use Rattle.scans.specs.Bytes.{byteAt, runLen}
+use Rattle.scans.proofs.Places.{byte-in, byte-inside}
+use Rattle.keys.specs.Keys.{keyText, keyAt}
+use Rattle.keys.specs.declared.Key.{Key}
+use Rattle.keys.specs.declared.ReadKey.{ReadKey}
+use Rattle.keys.proofs.KeyTexts.{key-is-text}
 use Rattle.tokens.specs.Tokens.{nameOfRun, nameAt, countAt, classAt}
-use Rattle.tokens.specs.Keys.{keyText, keyAt}
-use Rattle.tokens.specs.declared.keys.Key.{Key}
-use Rattle.tokens.specs.declared.keys.ReadKey.{ReadKey}
-use Rattle.tokens.specs.declared.read.ReadName.{ReadName}
-use Rattle.tokens.specs.declared.read.ReadCount.{ReadCount}
-use Rattle.tokens.specs.declared.read.ReadClass.{ReadClass}
-use Rattle.tokens.proofs.Places.{byte-in, byte-inside}
-use Rattle.tokens.proofs.KeyTexts.{key-is-text}
+use Rattle.tokens.specs.declared.ReadName.{ReadName}
+use Rattle.tokens.specs.declared.ReadCount.{ReadCount}
+use Rattle.tokens.specs.declared.ReadClass.{ReadClass}
 use Rattle.lines.specs.Left.{before, afterName, leftFrom, leftAt}
 use Rattle.lines.specs.Values.{unnamed, named, formAt, itemOf, itemAt, capOf, capAt, floorOf, floorAt, followOf, followAt, endOf, endAt, classBehind, withClass, rightBehind, withRight, valueAt}
 use Rattle.lines.specs.Lines.{ended, lineOf, lineAt, lineLen}

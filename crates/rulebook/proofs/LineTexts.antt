@@ -17,11 +17,11 @@ use Rattle.items.proofs.Bools.{and-left, and-right}
 use Rattle.rules.specs.Record.{leftItem}
 use Rattle.rules.specs.declared.Rule.{Rule}
 use Rattle.rules.proofs.Meaning.{by-kind}
-use Rattle.tokens.specs.Bytes.{byteAt, runLen}
+use Rattle.scans.specs.Bytes.{byteAt, runLen}
+use Rattle.keys.specs.Keys.{keyText}
+use Rattle.keys.specs.declared.Key.{Key}
 use Rattle.tokens.specs.Tokens.{nameAt, classText}
-use Rattle.tokens.specs.Keys.{keyText}
-use Rattle.tokens.specs.declared.keys.Key.{Key}
-use Rattle.tokens.specs.declared.read.ReadName.{ReadName}
+use Rattle.tokens.specs.declared.ReadName.{ReadName}
 use Rattle.tokens.proofs.Tokens.{count-is-text, class-is-text}
 use Rattle.lines.specs.Lines.{lineLen}
 use Rattle.lines.specs.declared.Line.{Line}

@@ -15,14 +15,14 @@ use Rattle.classes.specs.Class.{lowest, IsClass}
 use Rattle.classes.specs.declared.Class.{Class}
 use Rattle.items.specs.Names.{nameByte, isName}
 use Rattle.rules.specs.Record.{byKind}
-use Rattle.tokens.specs.Bytes.{byteAt, decimalByte, hexByte}
-use Rattle.tokens.specs.Keys.{keyText}
+use Rattle.scans.specs.Bytes.{byteAt, decimalByte, hexByte}
+use Rattle.scans.proofs.Runs.{run-no}
+use Rattle.keys.specs.Keys.{keyText}
+use Rattle.keys.specs.declared.Key.{Key}
+use Rattle.keys.proofs.KeyTexts.{key-reads}
 use Rattle.tokens.specs.Tokens.{nameAt, countText, classText}
-use Rattle.tokens.specs.declared.keys.Key.{Key}
-use Rattle.tokens.specs.declared.read.ReadName.{ReadName}
-use Rattle.tokens.proofs.Runs.{run-no}
+use Rattle.tokens.specs.declared.ReadName.{ReadName}
 use Rattle.tokens.proofs.Tokens.{name-reads, count-reads, class-reads}
-use Rattle.tokens.proofs.KeyTexts.{key-reads}
 use Rattle.lines.specs.Left.{leftAt}
 use Rattle.lines.specs.Values.{named, formAt, withClass, withRight, valueAt}
 use Rattle.lines.specs.declared.left.ReadLeft.{ReadLeft}

@@ -20,7 +20,7 @@ use Rattle.items.proofs.Search.{every-all}
 use Rattle.rules.specs.Record.{byKind, leftItem}
 use Rattle.rules.specs.Accepted.{mostLeft, LeftAccepted}
 use Rattle.rules.specs.declared.Rule.{Rule}
-use Rattle.tokens.specs.Bytes.{runLen}
+use Rattle.scans.specs.Bytes.{runLen}
 use Rattle.reader.specs.Names.{firstName, restNames, everyItem, numbersOf, rising}
 use Rattle.reader.specs.Lines.{leftPlaces, rightItemAt}
 use Rattle.writer.specs.Texts.{pieces}

@@ -10,8 +10,8 @@ use lib.ListN.{length, take, drop, take-append-drop}
 use lib.Seq.{take-all}
 use Rattle.items.specs.Names.{nameRoom, isName}
 use Rattle.rules.specs.Table.{recordAt}
-use Rattle.tokens.specs.Keys.{keyText}
-use Rattle.tokens.specs.declared.keys.Key.{Key}
+use Rattle.keys.specs.Keys.{keyText}
+use Rattle.keys.specs.declared.Key.{Key}
 use Rattle.lines.specs.Lines.{lineLen}
 use Rattle.lines.specs.declared.Line.{Line}
 use Rattle.reader.specs.declared.ReadBook.{ReadBook}

@@ -13,7 +13,7 @@ use borrow.Author.Tests.{le-ltb, ltb-false, le-leb, leb-true}
 use Rattle.items.specs.Names.{nameRoom}
 use Rattle.items.proofs.Bools.{and-left, and-right}
 use Rattle.rules.specs.Table.{ruleWords}
-use Rattle.tokens.specs.Writing.{over}
+use Rattle.puts.specs.Writing.{over}
 use Rattle.refusals.specs.declared.Fault.{Fault}
 use Rattle.reader.specs.declared.ReadBook.{ReadBook}
 use Rattle.reader.specs.Lines.{Result}

@@ -21,10 +21,10 @@ use Rattle.rules.specs.Record.{leftItem}
 use Rattle.rules.specs.Table.{ruleWords, wordAt, recordAt}
 use Rattle.rules.specs.Accepted.{mostRules, mostLeft, RuleAccepted}
 use Rattle.rules.specs.declared.Rule.{Rule}
-use Rattle.tokens.specs.Keys.{keyText}
+use Rattle.keys.specs.Keys.{keyText}
+use Rattle.keys.specs.declared.Key.{Key}
 use Rattle.tokens.specs.Tokens.{countText, classText}
-use Rattle.tokens.specs.declared.keys.Key.{Key}
-use Rattle.tokens.proofs.Over.{over-length}
+use Rattle.puts.proofs.Over.{over-length}
 use Rattle.lines.specs.Lines.{lineLen}
 use Rattle.lines.specs.declared.Line.{Line}
 use Rattle.reader.specs.declared.ReadBook.{ReadBook}

@@ -1,9 +1,9 @@
 // A text from its description: `|` is an LF, `%` and two hex digits are a byte, `{N PIECE}` is a piece N times over with `#` in it the
 // number of the turn, from 0. Any other byte is itself. A piece has no piece in it.
 use super::places::find;
-use tokens::scan::byte_at;
-use tokens::write::put;
-use tokens::write::put_count;
+use puts::put;
+use puts::put_count;
+use scans::byte_at;
 ghost use Prim.Native.Nat.{_≤_};
 
 // More steps than any description here takes.

@@ -1,11 +1,10 @@
 // Item tables made by hand.
-use tokens::write;
 
 // Puts the names of the three items of document 01's worked example, 48 bytes.
 pub fn example_names(items: &mut [u8]) {
-    write::put(b"cow-name", items, 0);
-    write::put(b"yield", items, 16);
-    write::put(b"demo-yield", items, 32);
+    puts::put(b"cow-name", items, 0);
+    puts::put(b"yield", items, 16);
+    puts::put(b"demo-yield", items, 32);
 }
 
 // Puts 257 names of 16 bytes, as far as the table has room for them.
@@ -22,7 +21,7 @@ fn long_name(items: &mut [u8], i: usize) {
     name[13] = letter(i / 256);
     name[14] = letter(i / 16);
     name[15] = letter(i);
-    write::put(&name, items, i % 4096 * 16);
+    puts::put(&name, items, i % 4096 * 16);
 }
 
 // One of the first sixteen letters.

@@ -1,5 +1,5 @@
 // Bytes by their places: a part, the place of a byte, whether two parts are the same.
-use tokens::scan::byte_at;
+use scans::byte_at;
 ghost use Prim.Native.Nat.{_≤_};
 
 // The bytes from one place to another; none where they are not places of the bytes in that order.

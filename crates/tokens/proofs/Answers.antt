@@ -14,14 +14,14 @@ use borrow.Author.Tests.{lt-ltb, le-ltb, eq-eqb, ne-eqb}
 use Rattle.classes.specs.Class.{classOf}
 use Rattle.classes.specs.declared.Class.{Class}
 use Rattle.items.specs.Names.{nameByte}
-use Rattle.tokens.specs.Bytes.{byteAt, decimalByte, hexByte, runLen}
+use Rattle.scans.specs.Bytes.{byteAt, decimalByte, hexByte, runLen}
+use Rattle.scans.proofs.Places.{byte-inside}
+use Rattle.scans.proofs.Runs.{run-le, run-at}
 use Rattle.tokens.specs.Numbers.{valueOf, Digits}
 use Rattle.tokens.specs.Tokens.{nameOfRun, nameAt, leadingZero, decimalOfRun, decimalAt, classAfter, classAt}
-use Rattle.tokens.specs.declared.read.ReadName.{ReadName}
-use Rattle.tokens.specs.declared.read.ReadCount.{ReadCount}
-use Rattle.tokens.specs.declared.read.ReadClass.{ReadClass}
-use Rattle.tokens.proofs.Places.{byte-inside}
-use Rattle.tokens.proofs.Runs.{run-le, run-at}
+use Rattle.tokens.specs.declared.ReadName.{ReadName}
+use Rattle.tokens.specs.declared.ReadCount.{ReadCount}
+use Rattle.tokens.specs.declared.ReadClass.{ReadClass}
 use Rattle.tokens.proofs.Values.{Base, hex}
 use Rattle.tokens.proofs.Tokens.{decimal-is-text}
 

@@ -18,13 +18,13 @@ use Rattle.classes.specs.declared.Class.{Class}
 use Rattle.items.specs.Names.{nameRoom, nameByte, isName}
 use Rattle.items.proofs.Bools.{true-not-false}
 use Rattle.items.proofs.Names.{spelled-name, name-spelled}
-use Rattle.tokens.specs.Bytes.{byteAt, decimalByte, hexByte, runLen}
+use Rattle.scans.specs.Bytes.{byteAt, decimalByte, hexByte, runLen}
+use Rattle.scans.proofs.Runs.{run-no, run-le, run-at, run-all, run-append, run-take}
 use Rattle.tokens.specs.Numbers.{digit, valueOf, digitsOf, decimalLen, decimalOf}
 use Rattle.tokens.specs.Tokens.{nameOfRun, nameAt, leadingZero, decimalOfRun, decimalAt, countAt, countText, classAfter, classAt, classText}
-use Rattle.tokens.specs.declared.read.ReadName.{ReadName}
-use Rattle.tokens.specs.declared.read.ReadCount.{ReadCount}
-use Rattle.tokens.specs.declared.read.ReadClass.{ReadClass}
-use Rattle.tokens.proofs.Runs.{run-no, run-le, run-at, run-all, run-append, run-take}
+use Rattle.tokens.specs.declared.ReadName.{ReadName}
+use Rattle.tokens.specs.declared.ReadCount.{ReadCount}
+use Rattle.tokens.specs.declared.ReadClass.{ReadClass}
 use Rattle.tokens.proofs.Values.{DecimalLen, decimal, hex, digits-length, digits-run, value-digits, digits-value, value-fits, high-first, first-high, decimal-len, decimal-has, decimal-short}
 
 -- Names. What a name's length says: the bytes are a name.

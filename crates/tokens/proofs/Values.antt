@@ -14,9 +14,9 @@ use lib.Dec.{leb, ltb}
 use lib.ListN.{length, length-append}
 use borrow.Author.Tests.{le-leb, lt-leb, lt-ltb, le-ltb, leb-true}
 use Rattle.items.proofs.Bools.{and-left, and-right}
-use Rattle.tokens.specs.Bytes.{byteAt, decimalByte, hexByte, runLen}
+use Rattle.scans.specs.Bytes.{byteAt, decimalByte, hexByte, runLen}
+use Rattle.scans.proofs.Runs.{run-append, all-head, all-tail}
 use Rattle.tokens.specs.Numbers.{digitValue, digit, valueAfter, valueOf, digitsOf, decimalLen}
-use Rattle.tokens.proofs.Runs.{run-append, all-head, all-tail}
 
 -- The bytes of a kind are the digits of a base: each has a value below the base and is the digit of that value, and each number below the base
 -- has a digit.

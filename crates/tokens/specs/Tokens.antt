@@ -8,11 +8,11 @@ use lib.ListN.{take, drop}
 use Rattle.classes.specs.Class.{classOf}
 use Rattle.classes.specs.declared.Class.{Class}
 use Rattle.items.specs.Names.{nameRoom, nameByte}
-use Rattle.tokens.specs.Bytes.{byteAt, decimalByte, hexByte, runLen}
+use Rattle.scans.specs.Bytes.{byteAt, decimalByte, hexByte, runLen}
 use Rattle.tokens.specs.Numbers.{valueOf, digitsOf, decimalOf}
-use Rattle.tokens.specs.declared.read.ReadName.{ReadName}
-use Rattle.tokens.specs.declared.read.ReadCount.{ReadCount}
-use Rattle.tokens.specs.declared.read.ReadClass.{ReadClass}
+use Rattle.tokens.specs.declared.ReadName.{ReadName}
+use Rattle.tokens.specs.declared.ReadCount.{ReadCount}
+use Rattle.tokens.specs.declared.ReadClass.{ReadClass}
 
 -- "A NAME is 1 to 16 bytes of a-z, 0-9 and hyphen." The whole run of such bytes is the name.
 unfoldable pub nameOfRun : ℕ → ReadName

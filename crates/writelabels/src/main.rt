@@ -6,7 +6,6 @@ use texts::places::part;
 use texts::say::say;
 use texts::show::OLD_BYTE;
 use texts::wrote::show_write_labels;
-use tokens::write;
 
 // The bytes of four names.
 const NAMES: usize = 64;
@@ -172,6 +171,6 @@ fn three(name: &[u8], levels: &[u64], marks: &[u64], out: &mut [u8]) {
 fn named(name: &[u8], second: &[u8], levels: &[u64]) {
     let mut items = [0u8; NAMES];
     example_names(&mut items);
-    write::put(second, &mut items, 16);
+    puts::put(second, &mut items, 16);
     show_write_labels(name, &items, 3, levels, &[0, 5, 5], &mut [OLD_BYTE; 300]);
 }

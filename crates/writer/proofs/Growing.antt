@@ -10,8 +10,8 @@ use native.Mathlib.Omega.{arith}
 use lib.Dec.{eqb}
 use lib.ListN.{length, length-append}
 use borrow.Author.Tests.{eq-eqb, ne-eqb, lt-leb}
-use Rattle.tokens.specs.Writing.{Put}
-use Rattle.tokens.proofs.Over.{over-length, over-over, put-buffer, put-next}
+use Rattle.puts.specs.Writing.{Put}
+use Rattle.puts.proofs.Over.{over-length, over-over, put-buffer, put-next}
 use Rattle.writer.specs.Texts.{pieces}
 use Rattle.refusals.specs.Numbers.{mostText}
 use Rattle.writer.specs.Pushing.{Grown}

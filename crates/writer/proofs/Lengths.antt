@@ -12,10 +12,10 @@ use Rattle.items.proofs.Table.{nameLen-most, nameOf-length}
 use Rattle.labels.specs.First.{AllBelow}
 use Rattle.labels.specs.Labels.{LevelInRange}
 use Rattle.rules.specs.Record.{labelsIn}
-use Rattle.tokens.specs.Keys.{keyText}
+use Rattle.keys.specs.Keys.{keyText}
+use Rattle.keys.specs.declared.Key.{Key}
 use Rattle.tokens.specs.Numbers.{decimalLen}
 use Rattle.tokens.specs.Tokens.{countText, classText}
-use Rattle.tokens.specs.declared.keys.Key.{Key}
 use Rattle.tokens.proofs.Values.{digits-length, decimal-most, decimal-short}
 use Rattle.tokens.proofs.Tokens.{class-length}
 use Rattle.writer.specs.Texts.{pieces, formLine, endLine, labelKey, labelLine, labelsText}

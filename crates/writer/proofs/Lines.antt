@@ -16,9 +16,9 @@ use Rattle.items.proofs.Table.{nameLen-inside, nameOf-length, named-len}
 use Rattle.rules.specs.Record.{byKind, leftItem}
 use Rattle.rules.specs.Table.{recordAt}
 use Rattle.rules.specs.declared.Rule.{Rule}
-use Rattle.tokens.specs.Keys.{keyText}
+use Rattle.keys.specs.Keys.{keyText}
+use Rattle.keys.specs.declared.Key.{Key}
 use Rattle.tokens.specs.Tokens.{countText, classText}
-use Rattle.tokens.specs.declared.keys.Key.{Key}
 use Rattle.tokens.specs.Numbers.{decimalLen}
 use Rattle.tokens.proofs.Values.{digits-length}
 use Rattle.tokens.proofs.Tokens.{class-length}

@@ -13,8 +13,8 @@ use Rattle.labels.specs.First.{Sought}
 use Rattle.labels.specs.Labels.{LevelInRange, Room}
 use Rattle.refusals.specs.declared.Fault.{Fault}
 use Rattle.rules.specs.Accepted.{TableAccepted}
-use Rattle.tokens.specs.Writing.{Put}
-use Rattle.tokens.proofs.Over.{take-over, put-buffer}
+use Rattle.puts.specs.Writing.{Put}
+use Rattle.puts.proofs.Over.{take-over, put-buffer}
 use Rattle.writer.specs.declared.Written.{Written}
 use Rattle.writer.specs.Texts.{bookText, labelsText}
 use Rattle.refusals.specs.Numbers.{mostText}

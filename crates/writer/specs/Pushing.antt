@@ -7,7 +7,7 @@ use lib.ListN.{length}
 use Rattle.items.specs.Table.{ItemsOk}
 use Rattle.rules.specs.Accepted.{RuleAccepted}
 use Rattle.rules.specs.declared.Rule.{Rule}
-use Rattle.tokens.specs.Writing.{over}
+use Rattle.puts.specs.Writing.{over}
 use Rattle.refusals.specs.Numbers.{mostText}
 
 -- The text x was to come at a place of the buffer d, which is now d′, and r is the next place: x stands there if it has room, and else the next

@@ -8,9 +8,9 @@ use Rattle.items.specs.Table.{nameOf}
 use Rattle.rules.specs.Record.{byKind, leftItem, labelsIn}
 use Rattle.rules.specs.Table.{recordAt}
 use Rattle.rules.specs.declared.Rule.{Rule}
-use Rattle.tokens.specs.Keys.{keyText}
+use Rattle.keys.specs.Keys.{keyText}
+use Rattle.keys.specs.declared.Key.{Key}
 use Rattle.tokens.specs.Tokens.{countText, classText}
-use Rattle.tokens.specs.declared.keys.Key.{Key}
 
 -- c pieces from number k on, one after the other.
 unfoldable pub pieces : (ℕ → List ℕ) → ℕ → ℕ → List ℕ

@@ -7,7 +7,7 @@ use Rattle.items.specs.Table.{ItemsOk}
 use Rattle.labels.specs.First.{AllBelow, FirstFailing}
 use Rattle.labels.specs.Labels.{LevelInRange, Room}
 use Rattle.rules.specs.Accepted.{TableAccepted}
-use Rattle.tokens.specs.Writing.{over}
+use Rattle.puts.specs.Writing.{over}
 use Rattle.refusals.specs.Numbers.{faultNumber, mostText}
 use Rattle.refusals.specs.declared.Fault.{Fault}
 use Rattle.writer.specs.declared.Written.{Written}

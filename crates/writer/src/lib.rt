@@ -69,6 +69,6 @@ fn copy_out(text: &[u8], out: &mut [u8]) -> Written
     if out.len() < len {
         return Written::Refused(Fault::NoRoom, 0);
     }
-    tokens::write::put(text, out, 0);
+    puts::put(text, out, 0);
     Written::Text(len)
 }

@@ -1,18 +1,18 @@
 // Text put piece by piece at the end of a growing text. Each function answers the place after its piece; where the buffer has no room for the
 // piece, nothing is written and the answer is FULL, past the longest text, at which nothing has room.
 use classes::Class;
-use tokens::keys::Key;
-use tokens::write::put;
-use tokens::write::put_class;
-use tokens::write::put_count;
-use tokens::write::put_key;
+use keys::Key;
+use puts::put;
+use puts::put_class;
+use puts::put_count;
+use puts::put_key;
 ghost use mathlib.Core.Path.{_≡_};
 ghost use mathlib.Core.Bool.{cond};
 ghost use Prim.Native.Nat.{_≤_};
 ghost use lib.Dec.{eqb};
 ghost use lib.ListN.{length};
 ghost use Rattle.items.specs.Table.{nameOf, NameAt};
-ghost use Rattle.tokens.specs.Keys.{keyText};
+ghost use Rattle.keys.specs.Keys.{keyText};
 ghost use Rattle.tokens.specs.Tokens.{countText, classText};
 ghost use Rattle.writer.specs.Pushing.{Grown};
 

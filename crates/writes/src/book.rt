@@ -10,7 +10,6 @@ use texts::places::part;
 use texts::say::say;
 use texts::show::OLD_BYTE;
 use texts::wrote::show_write;
-use tokens::write;
 
 // The bytes of the names of the example's three items, with one entry more, and the words of its five rules, with one rule more.
 pub const NAMES: usize = 64;
@@ -67,7 +66,7 @@ fn room() {
 fn more_entries() {
     let mut items = [OLD_BYTE; NAMES];
     let mut rules = [77u64; WORDS];
-    write::put(&[0; 48], &mut items, 0);
+    puts::put(&[0; 48], &mut items, 0);
     example(&mut items, &mut rules);
     past_the_counts(&items, &rules);
 }

@@ -17,7 +17,6 @@ use classes::Class;
 use rules::CAP;
 use rules::Rule;
 use texts::show::OLD_BYTE;
-use tokens::write;
 
 pub fn run() {
     names();
@@ -133,7 +132,7 @@ fn named(name: &[u8], at: usize, b: u8) {
     let mut items = [0u8; NAMES];
     let mut rules = [0u64; WORDS];
     example(&mut items, &mut rules);
-    write::put(&[b], &mut items, at);
+    puts::put(&[b], &mut items, at);
     lent(name, &items, 3, &rules, 5);
 }
 
@@ -142,7 +141,7 @@ fn renamed(name: &[u8], entry: &[u8]) {
     let mut items = [0u8; NAMES];
     let mut rules = [0u64; WORDS];
     example(&mut items, &mut rules);
-    write::put(entry, &mut items, 32);
+    puts::put(entry, &mut items, 32);
     lent(name, &items, 3, &rules, 5);
 }
 

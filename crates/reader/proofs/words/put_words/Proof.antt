@@ -1,7 +1,7 @@
 -- `put_words` meets its contract. Assumes nothing.
 use Prim.Native.Nat.{_-_}
 use lib.ListN.{length}
-use Rattle.tokens.proofs.Puts.{Copied, copied-none, copied-more}
+use Rattle.puts.proofs.Puts.{Copied, copied-none, copied-more}
 use Rattle.reader.proofs.Put.{copied-all}
 use borrow.Author.Needs.{needs}
 use Rattle.reader.proofs.words.put_words.Statement.{statement}

@@ -5,7 +5,7 @@ use Rattle.texts.proofs.make.number.Statement.{statement}
 use Rattle.texts.proofs.make.number.Tie as tie
 use Rattle.texts.proofs.make.after.Reads as after-reads
 use Rattle.texts.proofs.make.digit.Reads as digit-reads
-use Rattle.tokens.proofs.scan.byte_at.Reads as byte-at-reads
+use Rattle.scans.proofs.byte_at.Reads as byte-at-reads
 
 abbrev Inv-loop : tie.InvT-loop
 Inv-loop description at end n₀ i₀ n i = Unit {0}

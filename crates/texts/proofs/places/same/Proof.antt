@@ -4,7 +4,7 @@ use lib.ListN.{length}
 use borrow.Author.Needs.{needs}
 use Rattle.texts.proofs.places.same.Statement.{statement}
 use Rattle.texts.proofs.places.same.Tie as tie
-use Rattle.tokens.proofs.scan.byte_at.Reads as byte-at-reads
+use Rattle.scans.proofs.byte_at.Reads as byte-at-reads
 
 abbrev Inv-loop : tie.InvT-loop
 Inv-loop a b i₀ i = Unit {0}

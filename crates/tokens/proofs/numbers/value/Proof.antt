@@ -1,7 +1,7 @@
 -- `value` meets its contract. The loop's invariant: i digits are valued. The measure is what is left of them. Assumes nothing.
 use Prim.Native.Nat.{_-_}
 use borrow.Author.Needs.{needs}
-use Rattle.tokens.proofs.Loops.{Valued, valued-none, valued-in, valued-at, valued-mul, valued-add, valued-more, valued-end}
+use Rattle.tokens.proofs.Valued.{Valued, valued-none, valued-in, valued-at, valued-mul, valued-add, valued-more, valued-end}
 use Rattle.tokens.proofs.numbers.value.Statement.{statement}
 use Rattle.tokens.proofs.numbers.value.Tie as tie
 

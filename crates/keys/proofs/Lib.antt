@@ -1,0 +1,4 @@
+-- Why it is true, and what callers cite: the keys there and back.
+pub mod KeyTexts
+mod Compared
+mod Table

@@ -1,0 +1,61 @@
+-- `may_follow` meets its contract: the table's rule is a test at each of its 36 cells, which antt computes. Assumes nothing.
+use mathlib.Core.Path.{_≡_, refl}
+use mathlib.Core.Bool.{Bool, true, false, Bool·beq}
+use mathlib.Core.List.{List, [], _∷_}
+use Prim.Native.Nat.{ℕ, _+_, _*_, _/_, _%_, _≤_}
+use native.Mathlib.Omega.{arith}
+use lib.Dec.{T, eqb}
+use lib.ListN.{getD}
+use borrow.Author.Needs.{needs}
+use Rattle.keys.specs.Keys.{nextAllowed}
+use Rattle.keys.proofs.Table.{at}
+use Rattle.keys.proofs.KeyTexts.{next-past-rows, next-past-columns}
+use Rattle.keys.proofs.may_follow.Statement.{statement}
+use Rattle.keys.proofs.may_follow.Tie as tie
+
+-- The cells of the table, row after row.
+cells : List ℕ
+cells =
+    1 ∷ 0 ∷ 0 ∷ 0 ∷ 0 ∷ 0 ∷ 0 ∷ 1 ∷ 1 ∷ 1 ∷ 1 ∷ 1 ∷ 0 ∷ 1 ∷ 1 ∷ 1 ∷ 1 ∷ 1 ∷ 0 ∷ 0 ∷ 1 ∷ 1 ∷ 1 ∷ 1 ∷ 0 ∷ 0 ∷ 0 ∷ 1 ∷ 1 ∷ 1 ∷ 0 ∷ 0 ∷ 0 ∷ 0 ∷ 1 ∷ 1
+    ∷ []
+
+-- The cell's rule, and the test of it.
+right : ℕ → ℕ → Bool
+right i x = Bool·beq (eqb x 1) (nextAllowed (i / 6) (i % 6))
+
+beq-eq : (a b : Bool) → T (Bool·beq a b) → a ≡ b
+beq-eq true true t = refl
+beq-eq true false t = absurd t
+beq-eq false true t = absurd t
+beq-eq false false t = refl
+
+cell : (after key : ℕ) → after ≤ 5 → key ≤ 5 → eqb (getD cells (after * 6 + key) 0) 1 ≡ nextAllowed after key
+unfolding cells right nextAllowed
+cell after key h g =
+    let row : (after * 6 + key) / 6 ≡ after = omega arith in
+    let column : (after * 6 + key) % 6 ≡ key = omega arith in
+    beq-eq (eqb (getD cells (after * 6 + key) 0) 1) (nextAllowed after key)
+    (rw (row, column) at (at right cells tt (after * 6 + key) (omega arith)))
+
+returns : tie.Need-returns
+returns c = search (next-past-rows, needs)
+
+returns-2 : tie.Need-returns-2
+returns-2 c = search (next-past-columns, needs)
+
+mul-cell : tie.Need-mul-cell
+mul-cell c = search needs
+
+add-cell : tie.Need-add-cell
+add-cell c = search needs
+
+array-read-result : tie.Need-array-read-result
+array-read-result c = search needs
+
+returns-3 : tie.Need-returns-3
+unfolding cells
+returns-3 c = cell _ _ (omega arith) (omega arith)
+
+pub may-follow-spec : {M : Type 1} → statement M
+may-follow-spec =
+    tie.close (tie.spec returns returns-2 mul-cell add-cell array-read-result returns-3)

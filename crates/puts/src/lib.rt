@@ -1,0 +1,120 @@
+// Tokens put at a place of a lent buffer. Each function answers the place after what it put; where the buffer has no room for the whole of
+// it, it writes nothing and answers the place itself.
+use classes::Class;
+use keys::Key;
+ghost use mathlib.Core.Path.{_≡_};
+ghost use Prim.Native.Nat.{_+_, _<_};
+ghost use lib.Dec.{leb};
+ghost use Rattle.keys.specs.Keys.{keyText};
+ghost use Rattle.tokens.specs.Numbers.{digit, decimalLen};
+ghost use Rattle.tokens.specs.Tokens.{countText, classText};
+ghost use Rattle.puts.specs.Writing.{Put, DigitRoom, DigitsPut};
+
+// Puts these bytes.
+pub fn put(bytes: &[u8], out: &mut [u8], at: usize) -> usize
+    ensures { λ r. ⌜ Put (now (out .entry)) at (now (bytes .entry)) (now (out .exit)) r ⌝ }
+{
+    if !has_room(out.len(), at, bytes.len()) {
+        return at;
+    }
+    let mut i = 0;
+    while i < bytes.len() {
+        out[at + i] = bytes[i];
+        i += 1;
+    }
+    at + bytes.len()
+}
+
+// Puts a key with its `=`.
+pub fn put_key(key: Key, out: &mut [u8], at: usize) -> usize
+    ensures { λ r. ⌜ Put (now (out .entry)) at (keyText key) (now (out .exit)) r ⌝ }
+{
+    match key {
+        Key::Form => put(b"form=", out, at),
+        Key::Item => put(b"item=", out, at),
+        Key::Cap => put(b"cap=", out, at),
+        Key::Floor => put(b"floor=", out, at),
+        Key::Follow => put(b"follow=", out, at),
+        Key::End => put(b"end=", out, at),
+    }
+}
+
+// Puts a count in decimal with no leading zero; of a number over 99,999 the last five digits.
+pub fn put_count(n: u64, out: &mut [u8], at: usize) -> usize
+    ensures { λ r. ⌜ Put (now (out .entry)) at (countText n) (now (out .exit)) r ⌝ }
+{
+    let k = decimal_len(n);
+    if !has_room(out.len(), at, k) {
+        return at;
+    }
+    put_digits(10, k, n, out, at)
+}
+
+// Puts a class: the level as a count is put, a slash, and the marks in sixteen lower-case hex digits.
+pub fn put_class(class: Class, out: &mut [u8], at: usize) -> usize
+    ensures { λ r. ⌜ Put (now (out .entry)) at (classText class) (now (out .exit)) r ⌝ }
+{
+    let k = decimal_len(class.level);
+    if !has_room(out.len(), at, k + 17) {
+        return at;
+    }
+    let slash = put_digits(10, k, class.level, out, at);
+    out[slash] = b'/';
+    put_digits(16, 16, class.marks, out, slash + 1)
+}
+
+// Puts the lowest k digits of n, highest first.
+fn put_digits(base: u64, k: usize, n: u64, out: &mut [u8], at: usize) -> usize
+    requires { ⌜ DigitRoom base k (now out) at ⌝ }
+    ensures { λ r. ⌜ DigitsPut base k n (now (out .entry)) at (now (out .exit)) r ⌝ }
+{
+    let mut v = n;
+    let mut i = k;
+    while 0 < i {
+        i -= 1;
+        out[at + i] = digit_byte(v % base);
+        v = v / base;
+    }
+    at + k
+}
+
+// Whether n bytes at a place are within a buffer of `len` bytes.
+fn has_room(len: usize, at: usize, n: usize) -> bool
+    ensures { λ r. ⌜ r ≡ leb (at + n) len ⌝ }
+{
+    if len < at {
+        return false;
+    }
+    n <= len - at
+}
+
+// The digit worth d.
+fn digit_byte(d: u64) -> u8
+    requires { ⌜ d < 16 ⌝ }
+    ensures { λ r. ⌜ r ≡ digit d ⌝ }
+{
+    if d < 10 {
+        (48 + d) as u8
+    } else {
+        (87 + d) as u8
+    }
+}
+
+// How many decimal digits a number has with no leading zero, at most 5.
+fn decimal_len(n: u64) -> usize
+    ensures { λ r. ⌜ r ≡ decimalLen n ⌝ }
+{
+    if n < 10 {
+        return 1;
+    }
+    if n < 100 {
+        return 2;
+    }
+    if n < 1000 {
+        return 3;
+    }
+    if n < 10000 {
+        return 4;
+    }
+    5
+}
