@@ -5,7 +5,7 @@ use mathlib.Core.List.{List}
 use Prim.Native.Nat.{ℕ, zero, suc, _+_, _*_, _≤_, _<_}
 use native.Mathlib.Omega.{arith}
 use lib.ListN.{length}
-use Rattle.labels.specs.First.{AllBelow, FirstFailing}
+use Rattle.labels.specs.First.{FirstFailing}
 use Rattle.rules.specs.declared.Rule.{Rule}
 use Rattle.rules.specs.Table.{ruleWords, recordAt}
 use Rattle.rules.specs.Accepted.{RuleAccepted, Standing, RulesAccepted, TableAccepted}

@@ -14,10 +14,10 @@ use Rattle.classes.specs.Tells.{Tells}
 use Rattle.classes.proofs.Tells.{tells-no, tells-yes, tells-leb}
 use Rattle.labelling.specs.Rules.{Met}
 use Rattle.labelling.specs.Classes.{classes}
-use Rattle.labels.specs.First.{AllBelow, Sought}
+use Rattle.labels.specs.First.{Sought}
 use Rattle.rules.specs.declared.Rule.{Rule}
 use Rattle.rules.specs.Record.{meaningOf, labelsIn}
-use Rattle.rules.specs.Accepted.{mostRules, RuleAccepted, Standing}
+use Rattle.rules.specs.Accepted.{RuleAccepted, Standing}
 use Rattle.checker.specs.declared.list.Seen.{Seen}
 use Rattle.checker.specs.declared.Checked.the-variants.{BadTable}
 use Rattle.checker.specs.Answer.{Said, said}

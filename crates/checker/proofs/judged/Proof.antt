@@ -5,10 +5,6 @@ use Rattle.checker.proofs.Says.{judges-no-room, judges-bad-label, judge
 use borrow.Author.Needs.{needs}
 use Rattle.checker.proofs.judged.Statement.{statement}
 use Rattle.checker.proofs.judged.Tie as tie
-use Rattle.checker.proofs.judged.Reads as reads
-use Rattle.checker.proofs.judged.Lts as lts
-use Rattle.labels.proofs.first_bad.Reads as first-bad-reads
-use Rattle.labels.proofs.has_room.Reads as has-room-reads
 
 -- src/lib.rt:62:9
 has-room-requires : tie.Need-has-room-requires

@@ -5,10 +5,6 @@ use Rattle.checker.proofs.Walking.{concludes-sizes, concludes-order, co
 use borrow.Author.Needs.{needs}
 use Rattle.checker.proofs.list.answer.Statement.{statement}
 use Rattle.checker.proofs.list.answer.Tie as tie
-use Rattle.checker.proofs.list.answer.Reads as reads
-use Rattle.checker.proofs.list.answer.Lts as lts
-use Rattle.checker.proofs.judged.Reads as judged-reads
-use Rattle.checker.proofs.list.sizes_ok.Reads as sizes-ok-reads
 
 -- src/list.rt:118:9
 sizes-ok-requires : tie.Need-sizes-ok-requires

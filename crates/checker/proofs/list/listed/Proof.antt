@@ -4,9 +4,6 @@ use Rattle.checker.proofs.Walking.{count-all, count-none}
 use borrow.Author.Needs.{needs}
 use Rattle.checker.proofs.list.listed.Statement.{statement}
 use Rattle.checker.proofs.list.listed.Tie as tie
-use Rattle.checker.proofs.list.listed.Reads as reads
-use Rattle.checker.proofs.list.listed.Lts as lts
-use Rattle.checker.proofs.list.sizes_ok.Reads as sizes-ok-reads
 
 -- src/list.rt:63:8
 sizes-ok-requires : tie.Need-sizes-ok-requires

@@ -4,10 +4,6 @@ use Rattle.checker.proofs.Walking.{goes-on}
 use borrow.Author.Needs.{needs}
 use Rattle.checker.proofs.list.next.Statement.{statement}
 use Rattle.checker.proofs.list.next.Tie as tie
-use Rattle.checker.proofs.list.next.Reads as reads
-use Rattle.checker.proofs.list.next.Lts as lts
-use Rattle.checker.proofs.list.stands.Reads as stands-reads
-use Rattle.checker.proofs.list.unmet_after.Reads as unmet-after-reads
 
 -- src/list.rt:82:15
 stands-requires : tie.Need-stands-requires

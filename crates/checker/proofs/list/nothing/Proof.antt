@@ -1,11 +1,8 @@
 -- `checker::list::nothing` meets its contract.
 -- Assumes nothing.
 use Rattle.checker.proofs.Walking.{starts-so}
-use borrow.Author.Needs.{needs}
 use Rattle.checker.proofs.list.nothing.Statement.{statement}
 use Rattle.checker.proofs.list.nothing.Tie as tie
-use Rattle.checker.proofs.list.nothing.Reads as reads
-use Rattle.checker.proofs.list.nothing.Lts as lts
 
 -- src/list.rt:67:1
 returns : tie.Need-returns

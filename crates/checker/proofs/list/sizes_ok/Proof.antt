@@ -4,8 +4,6 @@ use Rattle.checker.proofs.Walking.{sizes-items, sizes-rules, sizes-room
 use borrow.Author.Needs.{needs}
 use Rattle.checker.proofs.list.sizes_ok.Statement.{statement}
 use Rattle.checker.proofs.list.sizes_ok.Tie as tie
-use Rattle.checker.proofs.list.sizes_ok.Reads as reads
-use Rattle.checker.proofs.list.sizes_ok.Lts as lts
 
 -- src/list.rt:51:9
 returns : tie.Need-returns

@@ -5,9 +5,6 @@ use Rattle.checker.proofs.Walking.{sought-earlier, sought-now, sought-n
 use borrow.Author.Needs.{needs}
 use Rattle.checker.proofs.list.unmet_after.Statement.{statement}
 use Rattle.checker.proofs.list.unmet_after.Tie as tie
-use Rattle.checker.proofs.list.unmet_after.Reads as reads
-use Rattle.checker.proofs.list.unmet_after.Lts as lts
-use Rattle.checker.proofs.met.Reads as met-reads
 
 -- src/list.rt:106:9
 returns : tie.Need-returns
