@@ -15,7 +15,7 @@ ghost use Rattle.checker.specs.Walking.{Sizes, Count, Starts, Stands, So
 
 // What is known of the rules so far: whether they are accepted in this order, the kind of the last one, and the number of the first one that is
 // not met, or the most rules where each is met.
-pub struct Seen {
+pub(crate) struct Seen {
     pub good: bool,
     pub kind: u64,
     pub unmet: usize,

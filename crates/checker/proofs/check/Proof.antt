@@ -6,23 +6,18 @@ use borrow.Author.Needs.{needs}
 use Rattle.checker.proofs.check.Statement.{statement}
 use Rattle.checker.proofs.check.Tie as tie
 
--- src/lib.rt:52:9
 rules-ok-requires : tie.Need-rules-ok-requires
 rules-ok-requires c κs = search needs
 
--- src/lib.rt:53:9
 returns : tie.Need-returns
 returns c = search (says-bad-table, told-no, needs)
 
--- src/lib.rt:55:12
 first-unmet-requires : tie.Need-first-unmet-requires
 first-unmet-requires c κs = search needs
 
--- src/lib.rt:55:5
 judged-requires : tie.Need-judged-requires
 judged-requires c κs = search needs
 
--- src/lib.rt:49:1
 returns-2 : tie.Need-returns-2
 returns-2 c = judges-accepted (told-yes (c .before .before .before .rules-ok .ensures) (c .before .before .if1 .left)) (c .judged .ensures) (c .before .first-unmet .ensures)
 

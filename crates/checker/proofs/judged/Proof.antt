@@ -6,27 +6,21 @@ use borrow.Author.Needs.{needs}
 use Rattle.checker.proofs.judged.Statement.{statement}
 use Rattle.checker.proofs.judged.Tie as tie
 
--- src/lib.rt:62:9
 has-room-requires : tie.Need-has-room-requires
 has-room-requires c κs = search needs
 
--- src/lib.rt:63:9
 returns : tie.Need-returns
 returns c = search (judges-no-room, told-no, needs)
 
--- src/lib.rt:65:9
 first-bad-requires : tie.Need-first-bad-requires
 first-bad-requires c κs = search needs
 
--- src/lib.rt:67:9
 returns-2 : tie.Need-returns-2
 returns-2 c = judges-bad-label (told-yes (c .before .before .before .has-room .ensures) (c .before .before .if1 .left)) (c .before .first-bad .ensures) (c .if2 .taken)
 
--- src/lib.rt:70:9
 returns-3 : tie.Need-returns-3
 returns-3 c = judges-unmet (told-yes (c .before .before .before .before .has-room .ensures) (c .before .before .before .if1 .left)) (c .before .before .first-bad .ensures) (c .before .if2 .left) (c .if3 .taken)
 
--- src/lib.rt:59:1
 returns-4 : tie.Need-returns-4
 returns-4 c = judges-met (told-yes (c .before .before .before .before .has-room .ensures) (c .before .before .before .if1 .left)) (c .before .before .first-bad .ensures) (c .before .if2 .left) (c .if3 .left)
 

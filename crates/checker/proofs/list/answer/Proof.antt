@@ -6,23 +6,18 @@ use borrow.Author.Needs.{needs}
 use Rattle.checker.proofs.list.answer.Statement.{statement}
 use Rattle.checker.proofs.list.answer.Tie as tie
 
--- src/list.rt:118:9
 sizes-ok-requires : tie.Need-sizes-ok-requires
 sizes-ok-requires c κs = search needs
 
--- src/list.rt:119:9
 returns : tie.Need-returns
 returns c = search (concludes-sizes, told-no, needs)
 
--- src/list.rt:122:9
 returns-2 : tie.Need-returns-2
 returns-2 c = concludes-order (told-yes (c .before .before .before .sizes-ok .ensures) (c .before .before .if1 .left)) (c .if2 .taken)
 
--- src/list.rt:124:5
 judged-requires : tie.Need-judged-requires
 judged-requires c κs = search needs
 
--- src/list.rt:115:1
 returns-3 : tie.Need-returns-3
 returns-3 c = concludes-judged (told-yes (c .before .before .before .before .sizes-ok .ensures) (c .before .before .before .if1 .left)) (c .before .if2 .left) (c .judged .ensures)
 

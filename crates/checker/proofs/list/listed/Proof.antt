@@ -5,15 +5,12 @@ use borrow.Author.Needs.{needs}
 use Rattle.checker.proofs.list.listed.Statement.{statement}
 use Rattle.checker.proofs.list.listed.Tie as tie
 
--- src/list.rt:63:8
 sizes-ok-requires : tie.Need-sizes-ok-requires
 sizes-ok-requires c κs = search needs
 
--- src/list.rt:60:1
 returns : tie.Need-returns
 returns c = search (count-all, needs)
 
--- src/list.rt:60:1
 returns-2 : tie.Need-returns-2
 returns-2 c = search (count-none, needs)
 

@@ -4,7 +4,6 @@ use Rattle.checker.proofs.Walking.{starts-so}
 use Rattle.checker.proofs.list.nothing.Statement.{statement}
 use Rattle.checker.proofs.list.nothing.Tie as tie
 
--- src/list.rt:67:1
 returns : tie.Need-returns
 returns c = starts-so
 

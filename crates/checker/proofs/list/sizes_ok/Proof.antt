@@ -5,15 +5,12 @@ use borrow.Author.Needs.{needs}
 use Rattle.checker.proofs.list.sizes_ok.Statement.{statement}
 use Rattle.checker.proofs.list.sizes_ok.Tie as tie
 
--- src/list.rt:51:9
 returns : tie.Need-returns
 returns c = search (sizes-items, needs)
 
--- src/list.rt:54:9
 returns-2 : tie.Need-returns-2
 returns-2 c = search (sizes-rules, needs)
 
--- src/list.rt:47:1
 returns-3 : tie.Need-returns-3
 returns-3 c = search (sizes-room, needs)
 

@@ -5,19 +5,15 @@ use borrow.Author.Needs.{needs}
 use Rattle.checker.proofs.list.stands.Statement.{statement}
 use Rattle.checker.proofs.list.stands.Tie as tie
 
--- src/list.rt:93:9
 returns : tie.Need-returns
 returns c = search (stands-after-bad, needs)
 
--- src/list.rt:96:9
 returns-2 : tie.Need-returns-2
 returns-2 c = search (stands-out-of-order, needs)
 
--- src/list.rt:98:5
 rule-ok-requires : tie.Need-rule-ok-requires
 rule-ok-requires c κs = search needs
 
--- src/list.rt:89:1
 returns-3 : tie.Need-returns-3
 returns-3 c = search (stands-by-itself, needs)
 
