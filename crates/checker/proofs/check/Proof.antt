@@ -9,7 +9,7 @@ use Rattle.checker.proofs.check.Reads as reads
 use Rattle.checker.proofs.check.Lts as lts
 use Rattle.checker.proofs.first_unmet.Reads as first-unmet-reads
 use Rattle.checker.proofs.judged.Reads as judged-reads
-use Rattle.rules.proofs.rules_ok.Reads as rules-ok-reads
+use Rattle.accepts.proofs.rules_ok.Reads as rules-ok-reads
 
 -- src/lib.rt:52:9
 rules-ok-requires : tie.Need-rules-ok-requires

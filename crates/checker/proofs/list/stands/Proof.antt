@@ -6,7 +6,7 @@ use Rattle.checker.proofs.list.stands.Statement.{statement}
 use Rattle.checker.proofs.list.stands.Tie as tie
 use Rattle.checker.proofs.list.stands.Reads as reads
 use Rattle.checker.proofs.list.stands.Lts as lts
-use Rattle.rules.proofs.rule_ok.Reads as rule-ok-reads
+use Rattle.accepts.proofs.rule_ok.Reads as rule-ok-reads
 
 -- src/list.rt:93:9
 returns : tie.Need-returns
