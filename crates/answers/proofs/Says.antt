@@ -11,7 +11,7 @@ use Rattle.labelling.specs.Classes.{classParts}
 use Rattle.labelling.specs.Parts.{Refused}
 use Rattle.labels.proofs.First.{first-not-all}
 use Rattle.rules.specs.Table.{bookOf}
-use Rattle.rules.specs.Accepted.{TableAccepted}
+use Rattle.accepts.specs.Accepted.{TableAccepted}
 use Rattle.puts.specs.Writing.{over, Put}
 use Rattle.puts.proofs.Over.{over-length, put-buffer}
 use Rattle.refusals.specs.Numbers.{faultNumber}

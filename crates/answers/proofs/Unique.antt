@@ -6,8 +6,8 @@ use Prim.Native.Nat.{ℕ}
 use native.Mathlib.Omega.{arith}
 use Rattle.labelling.proofs.Demands.{wanted-unique, refused-unique, refused-unlabelled}
 use Rattle.rules.specs.Table.{bookOf}
-use Rattle.rules.specs.Accepted.{TableAccepted}
-use Rattle.rules.proofs.Meaning.{table-inside}
+use Rattle.accepts.specs.Accepted.{TableAccepted}
+use Rattle.accepts.proofs.Inside.{table-inside}
 use Rattle.refusals.specs.Numbers.{faultNumber}
 use Rattle.refusals.specs.declared.Fault.{Fault}
 use Rattle.reader.specs.Reading.{readNumber, readPlace}

@@ -8,7 +8,7 @@ use lib.ListN.{length}
 use Rattle.labels.specs.First.{FirstFailing}
 use Rattle.rules.specs.declared.Rule.{Rule}
 use Rattle.rules.specs.Table.{ruleWords, recordAt}
-use Rattle.rules.specs.Accepted.{RuleAccepted, Standing, RulesAccepted, TableAccepted}
+use Rattle.accepts.specs.Accepted.{RuleAccepted, Standing, RulesAccepted, TableAccepted}
 use Rattle.checker.specs.declared.Checked.{Checked}
 use Rattle.checker.specs.Answer.{Said, said}
 use Rattle.checker.specs.Checking.{RuleMet, CheckSays, bad-table, no-room, bad-label, first-unmet, all-met}

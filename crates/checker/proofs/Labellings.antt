@@ -12,7 +12,7 @@ use Rattle.labels.specs.Labels.{Room}
 use Rattle.rules.specs.declared.Rule.{Rule}
 use Rattle.rules.specs.Record.{meaningOf, labelsIn}
 use Rattle.rules.specs.Table.{recordAt, bookOf}
-use Rattle.rules.specs.Accepted.{TableAccepted}
+use Rattle.accepts.specs.Accepted.{TableAccepted}
 use Rattle.checker.specs.declared.Checked.{Checked}
 use Rattle.checker.specs.declared.Checked.the-variants.{Met}
 use Rattle.checker.specs.Answer.{met, said}

@@ -17,7 +17,7 @@ use Rattle.labelling.specs.Classes.{classes}
 use Rattle.labels.specs.First.{Sought}
 use Rattle.rules.specs.declared.Rule.{Rule}
 use Rattle.rules.specs.Record.{meaningOf, labelsIn}
-use Rattle.rules.specs.Accepted.{RuleAccepted, Standing}
+use Rattle.accepts.specs.Accepted.{RuleAccepted, Standing}
 use Rattle.checker.specs.declared.list.Seen.{Seen}
 use Rattle.checker.specs.declared.Checked.the-variants.{BadTable}
 use Rattle.checker.specs.Answer.{Said, said}

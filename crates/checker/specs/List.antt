@@ -6,7 +6,7 @@ use Prim.Native.Nat.{ℕ, zero, suc, _*_, _≤_, _<_}
 use lib.ListN.{length, getD}
 use Rattle.rules.specs.declared.Rule.{Rule}
 use Rattle.rules.specs.Table.{ruleWords, recordAt}
-use Rattle.rules.specs.Accepted.{RulesAccepted}
+use Rattle.accepts.specs.Accepted.{RulesAccepted}
 
 -- Rule r; past the list's end it is the rule that a table has past its end, all zero.
 abbrev pub listAt : List Rule → ℕ → Rule

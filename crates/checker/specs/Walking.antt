@@ -8,7 +8,7 @@ use lib.ListN.{length}
 use Rattle.classes.specs.Tells.{Tells}
 use Rattle.labels.specs.First.{Sought}
 use Rattle.rules.specs.declared.Rule.{Rule}
-use Rattle.rules.specs.Accepted.{mostItems, mostRules, RuleAccepted, Standing}
+use Rattle.accepts.specs.Accepted.{mostItems, mostRules, RuleAccepted, Standing}
 use Rattle.checker.specs.declared.list.Seen.{Seen}
 use Rattle.checker.specs.Answer.{Said}
 use Rattle.checker.specs.Checking.{RuleMet, CheckSays}

@@ -14,7 +14,7 @@ ghost use Rattle.labelling.specs.Classes.{classes};
 ghost use Rattle.labels.specs.First.{Sought};
 ghost use Rattle.rules.specs.Record.{meaningOf, labelsIn};
 ghost use Rattle.rules.specs.Table.{recordAt};
-ghost use Rattle.rules.specs.Accepted.{TableAccepted};
+ghost use Rattle.accepts.specs.Accepted.{TableAccepted};
 ghost use Rattle.checker.specs.Answer.{said};
 ghost use Rattle.checker.specs.Checking.{RuleMet, CheckSays};
 ghost use Rattle.checker.specs.Judging.{Judges};
@@ -49,7 +49,7 @@ pub fn met(rule: Rule, levels: &[u64], marks: &[u64]) -> bool
 pub fn check(rules: &[u64], m: usize, n: usize, levels: &[u64], marks: &[u64]) -> Checked
     ensures { λ r. ⌜ CheckSays (TableAccepted (now (rules .entry)) m n) (recordAt (now (rules .entry))) m n (now (levels .entry)) (now (marks .entry)) (said r) ⌝ }
 {
-    if !rules::rules_ok(rules, m, n) {
+    if !accepts::rules_ok(rules, m, n) {
         return Checked::BadTable;
     }
     judged(first_unmet(rules, m, levels, marks), m, n, levels, marks)

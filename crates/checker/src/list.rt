@@ -101,7 +101,7 @@ fn stands(seen: Seen, rule: Rule, n: usize) -> bool
     if rule.kind < seen.kind {
         return false;
     }
-    rules::rule_ok(rule, n as u64)
+    accepts::rule_ok(rule, n as u64)
 }
 
 // The number of the first rule up to rule i that is not met, given that of the first before it.

@@ -10,7 +10,7 @@ use lib.Dec.{ltb, leb, eqb}
 use lib.ListN.{length, drop, length-drop}
 use Rattle.items.specs.Table.{mostItems}
 use Rattle.items.specs.Lookup.{findIn}
-use Rattle.rules.specs.Accepted.{mostRules, mostLeft}
+use Rattle.accepts.specs.Accepted.{mostRules, mostLeft}
 use Rattle.keys.specs.Keys.{keyNumber, nextAllowed}
 use Rattle.keys.specs.declared.Key.{Key}
 use Rattle.lines.specs.Lines.{lineAt, lineLen}

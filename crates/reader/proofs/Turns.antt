@@ -20,8 +20,8 @@ use Rattle.items.specs.Table.{mostItems}
 use Rattle.items.specs.Lookup.{findIn}
 use Rattle.items.specs.declared.Found.{Found}
 use Rattle.items.proofs.Found as found
-use Rattle.rules.specs.Accepted.{mostRules, mostLeft}
 use Rattle.rules.specs.declared.Rule.{Rule}
+use Rattle.accepts.specs.Accepted.{mostRules, mostLeft}
 use Rattle.keys.specs.Keys.{keyNumber, nextAllowed}
 use Rattle.keys.specs.declared.Key.{Key}
 use Rattle.puts.specs.Writing.{over, Put}

@@ -16,8 +16,8 @@ use Rattle.items.specs.Names.{nameRoom}
 use Rattle.items.proofs.Bools.{and-left}
 use Rattle.items.specs.Table.{mostItems}
 use Rattle.items.specs.Lookup.{findIn}
-use Rattle.rules.specs.Accepted.{mostRules, mostLeft}
 use Rattle.rules.specs.Table.{ruleWords}
+use Rattle.accepts.specs.Accepted.{mostRules, mostLeft}
 use Rattle.keys.specs.Keys.{keyNumber, nextAllowed}
 use Rattle.keys.specs.declared.Key.{Key}
 use Rattle.lines.specs.Lines.{lineAt, lineLen}

@@ -8,7 +8,7 @@ use lib.ListN.{length, drop}
 use Rattle.items.specs.Names.{nameRoom}
 use Rattle.items.specs.Table.{mostItems}
 use Rattle.rules.specs.Table.{ruleWords}
-use Rattle.rules.specs.Accepted.{mostRules, mostLeft}
+use Rattle.accepts.specs.Accepted.{mostRules, mostLeft}
 use Rattle.keys.specs.declared.Key.{Key}
 use Rattle.puts.specs.Writing.{over}
 use Rattle.lines.specs.Lines.{lineAt}

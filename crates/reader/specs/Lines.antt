@@ -12,8 +12,8 @@ use Rattle.items.specs.Lookup.{findIn}
 use Rattle.items.specs.declared.Found.{Found}
 use Rattle.rules.specs.Record.{leftItem}
 use Rattle.rules.specs.Table.{ruleWords}
-use Rattle.rules.specs.Accepted.{mostRules, mostLeft}
 use Rattle.rules.specs.declared.Rule.{Rule}
+use Rattle.accepts.specs.Accepted.{mostRules, mostLeft}
 use Rattle.keys.specs.Keys.{keyNumber, nextAllowed}
 use Rattle.keys.specs.declared.Key.{Key}
 use Rattle.puts.specs.Writing.{over}

@@ -10,8 +10,8 @@ use Rattle.items.specs.Table.{nameOf}
 use Rattle.items.proofs.Counted.{SameItems, items-counted}
 use Rattle.rules.specs.Record.{byKind}
 use Rattle.rules.specs.Table.{ruleWords, wordAt, recordAt}
-use Rattle.rules.specs.Accepted.{RuleAccepted, Standing}
 use Rattle.rules.specs.declared.Rule.{Rule}
+use Rattle.accepts.specs.Accepted.{RuleAccepted, Standing}
 use Rattle.keys.specs.Keys.{keyText}
 use Rattle.keys.specs.declared.Key.{Key}
 use Rattle.tokens.specs.Tokens.{classText}

@@ -20,8 +20,8 @@ use Rattle.items.proofs.Table.{nameOf-length, nameOf-at, nameLen-is}
 use Rattle.items.proofs.Lookup.{HasName, find-lowest, find-absent, name-is-name, found-name}
 use Rattle.items.proofs.Counted.{SameItems, items-counted}
 use Rattle.rules.specs.Table.{ruleWords, wordAt, recordAt}
-use Rattle.rules.specs.Accepted.{mostLeft}
 use Rattle.rules.specs.declared.Rule.{Rule}
+use Rattle.accepts.specs.Accepted.{mostLeft}
 use Rattle.puts.specs.Writing.{over}
 use Rattle.puts.proofs.Over.{over-length}
 use Rattle.reader.specs.Lines.{leftPlaces, wordsOf}

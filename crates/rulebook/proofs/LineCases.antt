@@ -12,7 +12,7 @@ use Rattle.items.specs.Table.{mostItems}
 use Rattle.items.specs.Lookup.{findIn}
 use Rattle.items.specs.declared.Found.{Found}
 use Rattle.items.proofs.Bools.{true-not-false, and-left, and-right}
-use Rattle.rules.specs.Accepted.{mostRules, mostLeft}
+use Rattle.accepts.specs.Accepted.{mostRules, mostLeft}
 use Rattle.keys.specs.Keys.{keyNumber, nextAllowed}
 use Rattle.keys.specs.declared.Key.{Key}
 use Rattle.lines.specs.Lines.{lineAt, lineLen}

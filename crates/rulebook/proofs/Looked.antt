@@ -18,8 +18,8 @@ use Rattle.items.specs.declared.Found.{Found}
 use Rattle.items.proofs.Names.{name-spelled}
 use Rattle.items.proofs.Search.{every-all}
 use Rattle.rules.specs.Record.{byKind, leftItem}
-use Rattle.rules.specs.Accepted.{mostLeft, LeftAccepted}
 use Rattle.rules.specs.declared.Rule.{Rule}
+use Rattle.accepts.specs.Accepted.{mostLeft, LeftAccepted}
 use Rattle.scans.specs.Bytes.{runLen}
 use Rattle.reader.specs.Names.{firstName, restNames, everyItem, numbersOf, rising}
 use Rattle.reader.specs.Lines.{leftPlaces, rightItemAt}

@@ -15,7 +15,7 @@ use Rattle.items.specs.declared.Found.{Found}
 use Rattle.items.proofs.Bools.{true-not-false, and-left, and-right}
 use Rattle.items.proofs.Search.{every-at}
 use Rattle.items.proofs.Lookup.{find-lowest}
-use Rattle.rules.specs.Accepted.{PlaceAccepted, RuleAccepted}
+use Rattle.accepts.specs.Accepted.{PlaceAccepted, RuleAccepted}
 use Rattle.tokens.proofs.Tokens.{class-is-text}
 use Rattle.lines.proofs.Sides.{name-some}
 use Rattle.lines.specs.declared.Line.{Line}

@@ -12,8 +12,8 @@ use lib.ListN.{length, drop, length-replicate}
 use Rattle.items.specs.Names.{nameRoom, isName}
 use Rattle.items.specs.Table.{mostItems}
 use Rattle.rules.specs.Table.{ruleWords, recordAt}
-use Rattle.rules.specs.Accepted.{mostRules, Standing, TableAccepted}
 use Rattle.rules.specs.declared.Rule.{Rule}
+use Rattle.accepts.specs.Accepted.{mostRules, Standing, TableAccepted}
 use Rattle.tokens.proofs.Tokens.{name-is-name}
 use Rattle.lines.specs.declared.Line.{Line}
 use Rattle.reader.specs.declared.ReadBook.{ReadBook}

@@ -19,8 +19,8 @@ use Rattle.items.specs.declared.Found.{Found}
 use Rattle.items.proofs.Lookup.{name-is-name}
 use Rattle.rules.specs.Record.{leftItem}
 use Rattle.rules.specs.Table.{ruleWords, wordAt, recordAt}
-use Rattle.rules.specs.Accepted.{mostRules, mostLeft, RuleAccepted}
 use Rattle.rules.specs.declared.Rule.{Rule}
+use Rattle.accepts.specs.Accepted.{mostRules, mostLeft, RuleAccepted}
 use Rattle.keys.specs.Keys.{keyText}
 use Rattle.keys.specs.declared.Key.{Key}
 use Rattle.tokens.specs.Tokens.{countText, classText}

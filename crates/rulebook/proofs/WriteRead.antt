@@ -10,7 +10,7 @@ use lib.ListN.{length, length-replicate}
 use Rattle.items.specs.Table.{nameOf}
 use Rattle.items.proofs.Lookup.{name-is-name}
 use Rattle.rules.specs.Table.{ruleWords, wordAt, recordAt}
-use Rattle.rules.specs.Accepted.{mostRules}
+use Rattle.accepts.specs.Accepted.{mostRules}
 use Rattle.reader.specs.declared.ReadBook.{ReadBook}
 use Rattle.reader.specs.Lines.{State, start, Result, resultOf}
 use Rattle.reader.specs.Reading.{readText}

@@ -1,14 +1,11 @@
--- An accepted table is a book whose every name is an item, so that the theorems about books hold of it.
+-- The rule that a record stands for, by its kind.
 -- Assumes nothing.
 use mathlib.Core.Path.{_≡_, refl, ap}
-use mathlib.Core.List.{List}
-use Prim.Native.Nat.{ℕ, zero, suc, _≤_, _<_, min}
+use Prim.Native.Nat.{ℕ, zero, suc, _≤_}
 use native.Mathlib.Omega.{arith}
 use Rattle.labelling.specs.Rules as meant
 use Rattle.rules.specs.declared.Rule.{Rule}
 use Rattle.rules.specs.Record.{leftOf, leftItem, byKind, meaningOf}
-use Rattle.rules.specs.Table.{recordAt, bookOf}
-use Rattle.rules.specs.Accepted.{LeftAccepted, RuleAccepted, RulesAccepted, TableAccepted}
 use Rattle.classes.specs.declared.Class.{Class}
 
 -- what holds of a cap, of a floor and of a follow, each where the kind is its own, holds of the rule
@@ -16,23 +13,6 @@ pub by-kind : {A : Type 0} (Q : A → Type 0) (k : ℕ) {c f g : A} → k ≤ 2 
 by-kind Q zero h p q r = p (omega arith)
 by-kind Q (suc zero) h p q r = q (omega arith)
 by-kind Q (suc (suc k)) h p q r = r (omega arith)
-
-left-inside : {n : ℕ} {x : Rule} → LeftAccepted n x → meant.LeftInside n (leftOf x)
-left-inside p = record { within = λ k s. p .places k (omega arith) .item (omega arith) }
-
-rule-inside : (n : ℕ) (x : Rule) → RuleAccepted n x → meant.RuleInside n (meaningOf x)
-unfolding meaningOf
-rule-inside n x p =
-    by-kind (meant.RuleInside n) (x .kind) (p .kind)
-    (λ e. p .left .places 0 (omega arith) .item (omega (arith, p .left .some)))
-    (λ e. left-inside (p .left))
-    (λ e. (left-inside (p .left), p .right e))
-
-pub rules-inside : {at : ℕ → Rule} {m n : ℕ} → RulesAccepted at m n → meant.Inside (record { items = n; rules = m; rule = λ r. meaningOf (at r) })
-rules-inside {at} {m} {n} p = record { inside = λ r s. rule-inside n (at r) (p .each r s .accepted) }
-
-pub table-inside : {t : List ℕ} {m n : ℕ} → TableAccepted t m n → meant.Inside (bookOf t m n)
-table-inside p = rules-inside (p .accepted)
 
 -- The rule that a record of each kind stands for.
 pub meaning-cap : (x : Rule) → x .kind ≡ 0 → meaningOf x ≡ meant.cap (leftItem x 0) (x .class)

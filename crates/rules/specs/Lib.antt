@@ -1,4 +1,3 @@
--- What the contracts of `rules` cite: a rule as a record, the flat table of rules, and which tables are accepted.
+-- What the contracts of `rules` cite: a rule as a record, the flat table of rules, and labels held in two lists.
 pub mod Record
 pub mod Table
-pub mod Accepted

@@ -16,8 +16,8 @@ use Rattle.labelling.proofs.Classes.{classLaws}
 use Rattle.labelling.proofs.Same.{wanted-same}
 use Rattle.labelling.proofs.Whole.{parts-wanted-below, refused-below}
 use Rattle.rules.specs.Table.{bookOf}
-use Rattle.rules.specs.Accepted.{TableAccepted}
-use Rattle.rules.proofs.Meaning.{table-inside}
+use Rattle.accepts.specs.Accepted.{TableAccepted}
+use Rattle.accepts.proofs.Inside.{table-inside}
 use Rattle.solver.specs.Solving.{Buffers, held, labelsOf, Room, refused, labelled, SolveSays, bad-table, no-room, no-labelling, writes-labels}
 use Rattle.solver.specs.Steps.{labelsAt}
 use Rattle.solver.specs.Lowers.{Copied}

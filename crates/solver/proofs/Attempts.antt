@@ -25,7 +25,7 @@ use Rattle.labelling.proofs.Whole.{inside-part}
 use Rattle.labelling.proofs.Same.{lowered-same}
 use Rattle.labelling.proofs.Lowering.{attempt-fails, lowered-step, lowered-stays}
 use Rattle.rules.specs.Table.{bookOf}
-use Rattle.rules.proofs.Meaning.{table-inside}
+use Rattle.accepts.proofs.Inside.{table-inside}
 use Rattle.solver.specs.Solving.{Buffers, held}
 use Rattle.solver.specs.Steps.{bookIn, valuesIn, labelsAt, Settles, Unheld}
 use Rattle.solver.specs.Lowers.{Copied, Chosen, Ready, LowersMarks, MarksStay, LowersLevel, TriesLevel, Lowers}

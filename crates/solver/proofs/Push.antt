@@ -8,9 +8,9 @@ use Rattle.classes.specs.declared.Class.{Class}
 use Rattle.labelling.specs.Rules.{cap, floor, follow, joinOver}
 use Rattle.labelling.specs.Classes.{classes}
 use Rattle.rules.specs.Record.{leftItem, leftOf, meaningOf}
-use Rattle.rules.specs.Accepted.{RuleAccepted}
 use Rattle.rules.specs.declared.Rule.{Rule}
 use Rattle.rules.proofs.Meaning.{meaning-cap, meaning-floor, meaning-follow}
+use Rattle.accepts.specs.Accepted.{RuleAccepted}
 use Rattle.solver.specs.Solving.{Buffers, labelsOf, Room}
 use Rattle.solver.specs.Steps.{LowersItem, PushesRule}
 use Rattle.solver.proofs.OneItem.{tracks-same}

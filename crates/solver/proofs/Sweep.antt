@@ -20,8 +20,8 @@ use Rattle.labelling.proofs.Whole.{inside-part, pushed-part, met-down-part}
 use Rattle.labelling.proofs.Classes.{classLaws}
 use Rattle.classes.specs.declared.Class.{Class}
 use Rattle.rules.specs.Table.{recordAt, bookOf}
-use Rattle.rules.specs.Accepted.{RuleAccepted, TableAccepted}
-use Rattle.rules.proofs.Meaning.{table-inside}
+use Rattle.accepts.specs.Accepted.{RuleAccepted, TableAccepted}
+use Rattle.accepts.proofs.Inside.{table-inside}
 use Rattle.solver.specs.Solving.{Buffers, held, labelsOf, Room}
 use Rattle.solver.specs.Steps.{bookIn, valuesIn, labelsAt, ruleAt, sumOf, Tracks, PushesRule, Sweeps, Settles, turnOf}
 use Rattle.solver.proofs.OneItem.{false-true, tracks-same}

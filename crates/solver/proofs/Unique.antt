@@ -14,7 +14,7 @@ use Rattle.labelling.specs.Labelling.{Wanted}
 use Rattle.labelling.specs.Classes.{classes, classParts}
 use Rattle.labelling.proofs.Demands.{wanted-unique, refused-unique, refused-unlabelled}
 use Rattle.rules.specs.Table.{bookOf}
-use Rattle.rules.proofs.Meaning.{table-inside}
+use Rattle.accepts.proofs.Inside.{table-inside}
 use Rattle.solver.specs.Solving.{Said, labelled, refused, said, Buffers, held, labelsOf, RestKept, WritesLabels, RefusesBook, SolveSays, bad-table, no-room, no-labelling, writes-labels}
 use Rattle.solver.specs.declared.Solved.{Solved}
 use Rattle.solver.specs.declared.Solved.the-variants.{Labelled, BadTable, NoRoom, NoLabelling}

@@ -8,7 +8,7 @@ use lib.ListN.{length, getD}
 use Rattle.classes.specs.Bits.{bit}
 use Rattle.classes.specs.Parts.{partCount}
 use Rattle.labelling.specs.Lowered.{Lowered, NoneLess}
-use Rattle.rules.specs.Accepted.{TableAccepted}
+use Rattle.accepts.specs.Accepted.{TableAccepted}
 use Rattle.solver.specs.Solving.{Buffers, Room}
 use Rattle.solver.specs.Steps.{bookIn, valuesIn, labelsAt}
 

@@ -10,7 +10,7 @@ use Rattle.labelling.specs.Parts.{Refused}
 use Rattle.labelling.specs.Classes.{classes, classParts}
 use Rattle.rules.specs.Record.{labelsIn}
 use Rattle.rules.specs.Table.{bookOf}
-use Rattle.rules.specs.Accepted.{TableAccepted}
+use Rattle.accepts.specs.Accepted.{TableAccepted}
 use Rattle.solver.specs.declared.Solved.{Solved}
 use Rattle.solver.specs.declared.Solved.the-variants.{Labelled, BadTable, NoRoom, NoLabelling}
 

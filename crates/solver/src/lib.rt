@@ -1,9 +1,9 @@
 // Solving: the wanted labels of a book that stands in a flat table of rules.
+use accepts::rules_ok;
 use classes::Class;
 use label::Outcome;
 use label::label;
 use lower::copy;
-use rules::rules_ok;
 ghost use Rattle.solver.specs.Solving.{held, said, SolveSays};
 
 mod floors;

@@ -7,8 +7,8 @@ use rules::left_join;
 use rules::rule_at;
 ghost use mathlib.Core.Path.{_≡_};
 ghost use Prim.Native.Nat.{_+_, _<_};
-ghost use Rattle.rules.specs.Accepted.{RuleAccepted, TableAccepted};
 ghost use Rattle.rules.specs.Table.{recordAt};
+ghost use Rattle.accepts.specs.Accepted.{RuleAccepted, TableAccepted};
 ghost use Rattle.solver.specs.Solving.{held, Room};
 ghost use Rattle.solver.specs.Steps.{LowersItem, PushesRule, Sweeps, Settles, ruleAt, turnOf};
 

@@ -12,7 +12,7 @@ use Rattle.items.specs.Table.{ItemsOk}
 use Rattle.labels.specs.First.{Sought}
 use Rattle.labels.specs.Labels.{LevelInRange, Room}
 use Rattle.refusals.specs.declared.Fault.{Fault}
-use Rattle.rules.specs.Accepted.{TableAccepted}
+use Rattle.accepts.specs.Accepted.{TableAccepted}
 use Rattle.puts.specs.Writing.{Put}
 use Rattle.puts.proofs.Over.{take-over, put-buffer}
 use Rattle.writer.specs.declared.Written.{Written}

@@ -5,8 +5,8 @@ use mathlib.Core.List.{List}
 use Prim.Native.Nat.{ℕ, _+_, _≤_, _<_}
 use lib.ListN.{length}
 use Rattle.items.specs.Table.{ItemsOk}
-use Rattle.rules.specs.Accepted.{RuleAccepted}
 use Rattle.rules.specs.declared.Rule.{Rule}
+use Rattle.accepts.specs.Accepted.{RuleAccepted}
 use Rattle.puts.specs.Writing.{over}
 use Rattle.refusals.specs.Numbers.{mostText}
 

@@ -6,7 +6,7 @@ use lib.ListN.{length}
 use Rattle.items.specs.Table.{ItemsOk}
 use Rattle.labels.specs.First.{AllBelow, FirstFailing}
 use Rattle.labels.specs.Labels.{LevelInRange, Room}
-use Rattle.rules.specs.Accepted.{TableAccepted}
+use Rattle.accepts.specs.Accepted.{TableAccepted}
 use Rattle.puts.specs.Writing.{over}
 use Rattle.refusals.specs.Numbers.{faultNumber, mostText}
 use Rattle.refusals.specs.declared.Fault.{Fault}

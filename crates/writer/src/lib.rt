@@ -23,7 +23,7 @@ pub fn write(items: &[u8], n: usize, rules: &[u64], m: usize, out: &mut [u8]) ->
     if !items::items_ok(items, n) {
         return Written::Refused(Fault::BadTable, 0);
     }
-    if !rules::rules_ok(rules, m, n) {
+    if !accepts::rules_ok(rules, m, n) {
         return Written::Refused(Fault::BadTable, 0);
     }
     let mut text = [0; 32768];

@@ -2,11 +2,11 @@
 use Prim.Native.Nat.{_≤_, _-_}
 use native.Mathlib.Omega.{arith}
 use Rattle.classes.proofs.Tells.{told-no, told-yes}
 use Rattle.rules.specs.Table.{recordAt}
-use Rattle.rules.proofs.Accepts.{StandingBefore, standing-none, standing-more, table-items, table-rules, table-short, table-bad, table-good}
+use Rattle.accepts.proofs.Accepts.{StandingBefore, standing-none, standing-more, table-items, table-rules, table-short, table-bad, table-good}
 use borrow.Author.Needs.{needs}
-use Rattle.rules.proofs.rules_ok.Statement.{statement}
-use Rattle.rules.proofs.rules_ok.Tie as tie
+use Rattle.accepts.proofs.rules_ok.Statement.{statement}
+use Rattle.accepts.proofs.rules_ok.Tie as tie
 
 abbrev Inv-loop : tie.InvT-loop
 Inv-loop rules m n r₀ r = StandingBefore (recordAt rules) m n r × (r ≤ m)

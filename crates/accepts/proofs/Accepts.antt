@@ -12,10 +12,10 @@ use lib.Dec.{eqb, ltb, leb}
 use lib.ListN.{length}
 use Rattle.classes.specs.Tells.{Tells}
 use Rattle.classes.proofs.Tells.{tells-no, tells-yes, tells-eqb, tells-ltb, tells-leb}
 use Rattle.rules.specs.declared.Rule.{Rule}
 use Rattle.rules.specs.Record.{leftItem}
 use Rattle.rules.specs.Table.{recordAt}
-use Rattle.rules.specs.Accepted.{PlaceAccepted, LeftAccepted, RuleAccepted, Standing, RulesAccepted, TableAccepted}
+use Rattle.accepts.specs.Accepted.{PlaceAccepted, LeftAccepted, RuleAccepted, Standing, RulesAccepted, TableAccepted}
 
 -- One place of the left side: beyond the last name; a name that is no item; the last name; a name with another behind it.
 pub place-spare : (n : ℕ) (x : Rule) (k : ℕ) → x .count ≤ k → Tells (PlaceAccepted n x k) (eqb (leftItem x k) 0)

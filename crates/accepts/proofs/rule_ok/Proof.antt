@@ -1,9 +1,9 @@
 -- `rule_ok` meets its contract. Assumes nothing.
 use Rattle.classes.proofs.Tells.{told-no, told-yes}
-use Rattle.rules.proofs.Accepts.{rule-left, rule-level, cap-many, cap-good, floor-good, rule-kind, follow-out, follow-level, follow-good}
+use Rattle.accepts.proofs.Accepts.{rule-left, rule-level, cap-many, cap-good, floor-good, rule-kind, follow-out, follow-level, follow-good}
 use borrow.Author.Needs.{needs}
-use Rattle.rules.proofs.rule_ok.Statement.{statement}
-use Rattle.rules.proofs.rule_ok.Tie as tie
+use Rattle.accepts.proofs.rule_ok.Statement.{statement}
+use Rattle.accepts.proofs.rule_ok.Tie as tie
 
 left-ok-requires : tie.Need-left-ok-requires
 left-ok-requires c κs = search needs

@@ -2,10 +2,10 @@
 use Prim.Native.Nat.{_≤_, _-_}
 use native.Mathlib.Omega.{arith}
 use Rattle.classes.proofs.Tells.{told-no, told-yes}
-use Rattle.rules.proofs.Accepts.{PlacesBefore, places-none, places-more, left-none, left-many, left-bad, left-good}
+use Rattle.accepts.proofs.Accepts.{PlacesBefore, places-none, places-more, left-none, left-many, left-bad, left-good}
 use borrow.Author.Needs.{needs}
-use Rattle.rules.proofs.left_ok.Statement.{statement}
-use Rattle.rules.proofs.left_ok.Tie as tie
+use Rattle.accepts.proofs.left_ok.Statement.{statement}
+use Rattle.accepts.proofs.left_ok.Tie as tie
 
 abbrev Inv-loop : tie.InvT-loop
 Inv-loop rule n k₀ k = PlacesBefore n rule k × (k ≤ 8)

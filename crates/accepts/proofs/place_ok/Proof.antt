@@ -1,8 +1,8 @@
 -- `place_ok` meets its contract. Assumes nothing.
-use Rattle.rules.proofs.Accepts.{place-spare, place-out, place-last, place-next}
+use Rattle.accepts.proofs.Accepts.{place-spare, place-out, place-last, place-next}
 use borrow.Author.Needs.{needs}
-use Rattle.rules.proofs.place_ok.Statement.{statement}
-use Rattle.rules.proofs.place_ok.Tie as tie
+use Rattle.accepts.proofs.place_ok.Statement.{statement}
+use Rattle.accepts.proofs.place_ok.Tie as tie
 
 mul-item : tie.Need-mul-item
 mul-item c = search needs

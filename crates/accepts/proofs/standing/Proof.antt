@@ -1,9 +1,9 @@
 -- `standing` meets its contract. Assumes nothing.
 use Rattle.classes.proofs.Tells.{told-no, told-yes}
-use Rattle.rules.proofs.Accepts.{standing-bad, standing-last, standing-next}
+use Rattle.accepts.proofs.Accepts.{standing-bad, standing-last, standing-next}
 use borrow.Author.Needs.{needs}
-use Rattle.rules.proofs.standing.Statement.{statement}
-use Rattle.rules.proofs.standing.Tie as tie
+use Rattle.accepts.proofs.standing.Statement.{statement}
+use Rattle.accepts.proofs.standing.Tie as tie
 
 rule-at-requires : tie.Need-rule-at-requires
 rule-at-requires c κs = search needs
