@@ -49,7 +49,7 @@ module _ {t : List ℕ} {m n i : ℕ} (l k : List ℕ) (ready : Ready t m n (hel
   cleared : (p : ℕ) → Placed n (labelsAt (suc p) (held l k)) i 0 (labelsAt (suc p) (held l (set k i 0)))
   unfolding part
   cleared p = record {
-    here = ap (bit p) (getD-set-same k i 0 0 (omega (arith, ready .room .marks))) ∙ bit-of-zero p;
+    here = ap (bit p) (getD-set-same k i 0 0 (omega (arith, ready .room .forMarks))) ∙ bit-of-zero p;
     other = λ j s ne. ap (bit p) (getD-set-other k i j 0 0 ne);
   }
 
@@ -77,7 +77,7 @@ module _ {t : List ℕ} {m n i : ℕ} (l k : List ℕ) (ready : Ready t m n (hel
   levelled : (v : ℕ) → Placed n (labelsAt 0 (held l k)) i v (labelsAt 0 (held (set l i v) k))
   unfolding part
   levelled v = record {
-    here = getD-set-same l i v 0 (omega (arith, ready .room .levels));
+    here = getD-set-same l i v 0 (omega (arith, ready .room .forLevels));
     other = λ j s ne. getD-set-other l i j v 0 ne;
   }
 

@@ -22,7 +22,8 @@ use Rattle.classes.specs.declared.Class.{Class}
 use Rattle.rules.specs.Table.{recordAt, bookOf}
 use Rattle.accepts.specs.Accepted.{RuleAccepted, TableAccepted}
 use Rattle.accepts.proofs.Inside.{table-inside}
-use Rattle.solver.specs.Solving.{Buffers, held, labelsOf, Room}
+use Rattle.labels.specs.Labels.{Room}
+use Rattle.solver.specs.Solving.{Buffers, held, labelsOf}
 use Rattle.solver.specs.Steps.{bookIn, valuesIn, labelsAt, ruleAt, sumOf, Tracks, PushesRule, Sweeps, Settles, turnOf}
 use Rattle.solver.proofs.OneItem.{false-true, tracks-same}
 
@@ -49,8 +50,8 @@ same-size b = record { levels = refl; marks = refl }
 pub size-trans : {a b c : Buffers} → SameSize a b → SameSize b c → SameSize a c
 size-trans x y = record { levels = y .levels ∙ x .levels; marks = y .marks ∙ x .marks }
 
-pub room-kept : {n : ℕ} {b c : Buffers} → Room n b → SameSize b c → Room n c
-room-kept r s = record { levels = omega (arith, r .levels, s .levels); marks = omega (arith, r .marks, s .marks) }
+pub room-kept : {n : ℕ} {b c : Buffers} → Room n (b .levels) (b .marks) → SameSize b c → Room n (c .levels) (c .marks)
+room-kept r s = record { forLevels = omega (arith, r .forLevels, s .levels); forMarks = omega (arith, r .forMarks, s .marks) }
 
 -- Changes one after the other.
 pub tracks-trans : {a b c : Buffers} (x y : Bool) → Tracks a b x → Tracks b c y → Tracks a c (x || y)
@@ -103,7 +104,7 @@ swept-more {t} {m} {n} {back} {before} {cur} {next} {changed} {fell} {k} {r} ok 
     move quiet j h = subst (λ b. MetDown classes (ruleAt t (turnOf back m j)) (labelsOf b)) (sym (x .tracks .same (or-right changed fell quiet))) h
 
 -- what the next push requires
-pub push-ready : {t : List ℕ} {m n k r : ℕ} (back : Bool) {before cur : Buffers} → Room n before × TableAccepted t m n → SameSize before cur → k < m → r ≡ turnOf back m k → Room n cur × RuleAccepted n (recordAt t r)
+pub push-ready : {t : List ℕ} {m n k r : ℕ} (back : Bool) {before cur : Buffers} → Room n (before .levels) (before .marks) × TableAccepted t m n → SameSize before cur → k < m → r ≡ turnOf back m k → Room n (cur .levels) (cur .marks) × RuleAccepted n (recordAt t r)
 push-ready {t} {m} {n} {k} {r} back (room, ok) size l e = (room-kept room size, ok .accepted .each r (subst (λ z. z < m) (sym e) (turn-below back m k l)) .accepted)
 
 pub swept-all : {t : List ℕ} {m n : ℕ} {back : Bool} {before cur : Buffers} {changed : Bool} {k : ℕ} → Swept t m n back before cur changed k → m ≤ k → Sweeps t m n before cur changed

@@ -9,7 +9,8 @@ use Rattle.classes.specs.Bits.{bit}
 use Rattle.classes.specs.Parts.{partCount}
 use Rattle.labelling.specs.Lowered.{Lowered, NoneLess}
 use Rattle.accepts.specs.Accepted.{TableAccepted}
-use Rattle.solver.specs.Solving.{Buffers, Room}
+use Rattle.labels.specs.Labels.{Room}
+use Rattle.solver.specs.Solving.{Buffers}
 use Rattle.solver.specs.Steps.{bookIn, valuesIn, labelsAt}
 
 -- The first n words are those of another list; the rest is as it was.
@@ -27,7 +28,7 @@ pub record Chosen (n w : ℕ) (old before after : List ℕ) : Type 0 where
 -- The table is accepted and the labels have room.
 pub record Ready (t : List ℕ) (m n : ℕ) (b : Buffers) : Type 0 where
   pub accepted : TableAccepted t m n
-  pub room : Room n b
+  pub room : Room n (b .levels) (b .marks)
 
 -- In the marks, labels lowered up to item i become labels lowered up to item k. The levels stay.
 pub record LowersMarks (t : List ℕ) (m n i k : ℕ) (before after : Buffers) : Type 0 where
