@@ -225,33 +225,33 @@ module _ (l : List ℕ) (v : Value) where
   end-value e = subst (ValueSays EndValue l) e (end-says l (countAt l) refl)
 
 -- A line: its key, its value, and LF behind them.
-pub record LineHere (l : List ℕ) (x : Line) : Type 0 where
+pub record LineParts (l : List ℕ) (x : Line) : Type 0 where
   pub key : keyAt l ≡ ReadKey.Found (x .key) (x .from)
   pub value : valueAt (x .key) (drop (x .from) l) ≡ ReadValue.Found (x .value)
   pub last : byteAt (drop (x .from + x .value .len) l) ≡ 10
 
-abbrev LineSays : List ℕ → ReadLine → Type 0
-LineSays l ReadLine.Bad = Unit
-LineSays l (ReadLine.Found x) = LineHere l x
+abbrev PartsSay : List ℕ → ReadLine → Type 0
+PartsSay l ReadLine.Bad = Unit
+PartsSay l (ReadLine.Found x) = LineParts l x
 
-ended-says : (l : List ℕ) (k : Key) (n : ℕ) (y : ReadValue) → keyAt l ≡ ReadKey.Found k n → valueAt k (drop n l) ≡ y → LineSays l (ended l k n y)
+ended-says : (l : List ℕ) (k : Key) (n : ℕ) (y : ReadValue) → keyAt l ≡ ReadKey.Found k n → valueAt k (drop n l) ≡ y → PartsSay l (ended l k n y)
 ended-says l k n ReadValue.Bad e f = tt
 ended-says l k n (ReadValue.Found v) e f = says (eqb (byteAt (drop (n + v .len) l)) 10) refl
   where
     says : (b : Bool) → eqb (byteAt (drop (n + v .len) l)) 10 ≡ b
-        → LineSays l (cond b (ReadLine.Found (record { key = k; from = n; value = v })) ReadLine.Bad)
+        → PartsSay l (cond b (ReadLine.Found (record { key = k; from = n; value = v })) ReadLine.Bad)
     says true d = record { key = e; value = f; last = eqb-true (byteAt (drop (n + v .len) l)) 10 d }
     says false d = tt
 
-line-says : (l : List ℕ) (y : ReadKey) → keyAt l ≡ y → LineSays l (lineOf l y)
-line-says l ReadKey.Bad e = tt
-line-says l (ReadKey.Found k n) e = ended-says l k n (valueAt k (drop n l)) e refl
+parts-say : (l : List ℕ) (y : ReadKey) → keyAt l ≡ y → PartsSay l (lineOf l y)
+parts-say l ReadKey.Bad e = tt
+parts-say l (ReadKey.Found k n) e = ended-says l k n (valueAt k (drop n l)) e refl
 
-pub line-here : (l : List ℕ) (x : Line) → lineAt l ≡ ReadLine.Found x → LineHere l x
-line-here l x e = subst (LineSays l) e (line-says l (keyAt l) refl)
+pub line-parts : (l : List ℕ) (x : Line) → lineAt l ≡ ReadLine.Found x → LineParts l x
+line-parts l x e = subst (PartsSay l) e (parts-say l (keyAt l) refl)
 
 -- The bytes of a line: its key's text, its value's bytes, and LF.
-pub line-text : (l : List ℕ) (x : Line) → LineHere l x
+pub line-text : (l : List ℕ) (x : Line) → LineParts l x
     → take (lineLen x) l ≡ keyText (x .key) ++ take (x .value .len) (drop (x .from) l) ++ (10 ∷ [])
 line-text l x h =
     take-byte (x .from + x .value .len) l 10 (h .last) (omega arith)
