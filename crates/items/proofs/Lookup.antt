@@ -12,15 +12,16 @@ use lib.Dec.{ltb, leb}
 use lib.ListN.{length, getD}
 use borrow.Author.Tests.{eqb-true, eq-eqb, leb-true, le-leb, ltb-true, ltb-false}
 use Rattle.classes.specs.Tells.{Tells}
-use Rattle.classes.proofs.Tells.{tells-unique}
+use Rattle.classes.proofs.Bools.{true-not-false, and-left, and-right}
+use Rattle.classes.proofs.Every.{every-all, every-at}
+use Rattle.classes.proofs.Tells.{tells-unique, tells-test}
 use Rattle.items.specs.Search.{firstBelow}
 use Rattle.items.specs.Names.{nameRoom, isName}
 use Rattle.items.specs.Table.{mostItems, tableFits, entryByte, nameLen, nameOf, SameEntry, NameAt, ItemsOk}
 use Rattle.items.specs.Lookup.{foundNumber, foundPlace, sameName, lookUp, findIn}
 use Rattle.items.specs.declared.Found.{Found}
 use Rattle.items.specs.declared.Found.the-variants.{At, Absent, BadTable}
-use Rattle.items.proofs.Bools.{true-not-false, and-left, and-right, tells-test}
-use Rattle.items.proofs.Search.{First, first-below, every-all, every-at}
+use Rattle.items.proofs.Search.{First, first-below}
 use Rattle.items.proofs.Names.{spelled-name}
 use Rattle.items.proofs.Table.{named-spelled, named-rest, nameOf-at, nameOf-past}
 

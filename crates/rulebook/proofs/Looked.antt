@@ -12,11 +12,11 @@ use lib.Dec.{ltb}
 use lib.ListN.{length, getD, List·getD-eq-default}
 use lib.Seq.{take-at, drop-at, drop-drop}
 use borrow.Author.Tests.{lt-ltb}
+use Rattle.classes.proofs.Every.{every-all}
 use Rattle.items.specs.Names.{nameByte, isName}
 use Rattle.items.specs.Lookup.{findIn}
 use Rattle.items.specs.declared.Found.{Found}
 use Rattle.items.proofs.Names.{name-spelled}
-use Rattle.items.proofs.Search.{every-all}
 use Rattle.rules.specs.Record.{byKind, leftItem}
 use Rattle.rules.specs.declared.Rule.{Rule}
 use Rattle.accepts.specs.Accepted.{mostLeft, LeftAccepted}

@@ -10,10 +10,10 @@ use native.Mathlib.Omega.{arith}
 use lib.Dec.{ltb}
 use lib.ListN.{length, getD, take, drop, List·getD-eq-default}
 use borrow.Author.Tests.{ltb-true}
+use Rattle.classes.proofs.Bools.{true-not-false, and-left, and-right}
+use Rattle.classes.proofs.Every.{every-at}
 use Rattle.items.specs.Lookup.{findIn}
 use Rattle.items.specs.declared.Found.{Found}
-use Rattle.items.proofs.Bools.{true-not-false, and-left, and-right}
-use Rattle.items.proofs.Search.{every-at}
 use Rattle.items.proofs.Lookup.{find-lowest}
 use Rattle.accepts.specs.Accepted.{PlaceAccepted, RuleAccepted}
 use Rattle.tokens.proofs.Tokens.{class-is-text}
