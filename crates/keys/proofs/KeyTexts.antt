@@ -14,6 +14,15 @@ use Rattle.keys.specs.Keys.{keyText, startsWith, foundOr, keyOr, keyAt, 
 use Rattle.keys.specs.declared.Key.{Key}
 use Rattle.keys.specs.declared.ReadKey.{ReadKey}
 
+-- No key's text is empty.
+pub key-some : (k : Key) → 1 ≤ length (keyText k)
+key-some Key.Form = omega arith
+key-some Key.Item = omega arith
+key-some Key.Cap = omega arith
+key-some Key.Floor = omega arith
+key-some Key.Follow = omega arith
+key-some Key.End = omega arith
+
 -- What it is to begin with given bytes.
 pub record Begins (x l : List ℕ) : Type 0 where
   pub within : length x ≤ length l

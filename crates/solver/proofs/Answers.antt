@@ -72,8 +72,8 @@ module _ (t : List ℕ) (m n : ℕ) (before : Buffers) where
     count = refl;
     wanted = wanted-same classes (bookOf t m n) (table-inside ok) written
         (parts-wanted-below classParts classLaws (bookOf t m n) (table-inside ok) (labelsOf start) (highest-tops x) (labelsOf mid) is (everywhere .wanted));
-    levels = record { sized = levels .sized; rest = levels .rest };
-    marks = record { sized = marks .sized; rest = marks .rest };
+    levels = levels .kept;
+    marks = marks .kept;
   })
     where
       everywhere : WantedEverywhere t m n start mid

@@ -2,7 +2,7 @@
 -- part, and what is true at the end.
 -- Assumes nothing.
 use mathlib.Core.Path.{_≡_, refl, sym, _∙_, ap, subst}
-use mathlib.Core.Bool.{Bool, true, false, _||_}
+use mathlib.Core.Bool.{Bool, true, false, _||_, true≢false, false≢true}
 use mathlib.Core.List.{List}
 use Prim.Native.Nat.{ℕ, zero, suc, _+_, _-_, _≤_, _<_, min}
 use native.Mathlib.Nat.{not-suc-le-zero}
@@ -25,7 +25,7 @@ use Rattle.accepts.proofs.Inside.{table-inside}
 use Rattle.labels.specs.Labels.{Room}
 use Rattle.solver.specs.Solving.{Buffers, held, labelsOf}
 use Rattle.solver.specs.Steps.{bookIn, valuesIn, labelsAt, ruleAt, sumOf, Tracks, PushesRule, Sweeps, Settles, turnOf}
-use Rattle.solver.proofs.OneItem.{false-true, tracks-same}
+use Rattle.solver.proofs.OneItem.{tracks-same}
 
 -- The turns of a sweep: each is a rule, and each rule has its turn.
 pub turn-back : (b : Bool) (m k : ℕ) → b ≡ true → m - 1 - k ≡ turnOf b m k
@@ -55,10 +55,10 @@ room-kept r s = record { forLevels = omega (arith, r .forLevels, s .levels); for
 
 -- Changes one after the other.
 pub tracks-trans : {a b c : Buffers} (x y : Bool) → Tracks a b x → Tracks b c y → Tracks a c (x || y)
-tracks-trans false false p q = record { same = λ e. q .same refl ∙ p .same refl; falls = λ e. false-true e }
-tracks-trans {a} {b} {c} false true p q = record { same = λ e. false-true (sym e); falls = λ e. subst (λ z. sumOf c < sumOf z) (p .same refl) (q .falls refl) }
-tracks-trans {a} {b} {c} true false p q = record { same = λ e. false-true (sym e); falls = λ e. subst (λ z. sumOf z < sumOf a) (sym (q .same refl)) (p .falls refl) }
-tracks-trans true true p q = record { same = λ e. false-true (sym e); falls = λ e. omega (arith, p .falls refl, q .falls refl) }
+tracks-trans false false p q = record { same = λ e. q .same refl ∙ p .same refl; falls = λ e. absurd (false≢true e) }
+tracks-trans {a} {b} {c} false true p q = record { same = λ e. absurd (true≢false e); falls = λ e. subst (λ z. sumOf c < sumOf z) (p .same refl) (q .falls refl) }
+tracks-trans {a} {b} {c} true false p q = record { same = λ e. absurd (true≢false e); falls = λ e. subst (λ z. sumOf z < sumOf a) (sym (q .same refl)) (p .falls refl) }
+tracks-trans true true p q = record { same = λ e. absurd (true≢false e); falls = λ e. omega (arith, p .falls refl, q .falls refl) }
 
 or-left : (x y : Bool) → (x || y) ≡ false → x ≡ false
 or-left false y e = refl
@@ -66,7 +66,7 @@ or-left true y e = e
 
 or-right : (x y : Bool) → (x || y) ≡ false → y ≡ false
 or-right false y e = e
-or-right true y e = false-true (sym e)
+or-right true y e = absurd (true≢false e)
 
 -- A push of rule r, seen in part p.
 part-push : {t : List ℕ} {m n : ℕ} → TableAccepted t m n → (p : ℕ) → p < partCount → (before : Buffers) {cur next : Buffers} {b : Bool} → Between (valuesIn p) (bookIn p t m n) (labelsAt p before) (labelsAt p cur) → (r : ℕ) → r < m → PushesRule n (ruleAt t r) cur next b → Between (valuesIn p) (bookIn p t m n) (labelsAt p before) (labelsAt p next)
