@@ -4,8 +4,6 @@ use mathlib.Core.Path.{_≡_, sym, subst}
 use mathlib.Core.Bool.{Bool, true, false}
 use mathlib.Core.List.{List}
 use Prim.Native.Nat.{ℕ, zero, suc, _+_, _*_, _≤_, _<_}
-use native.Mathlib.Nat.{not-suc-le-zero}
-use borrow.Author.Count.{below-more}
 use native.Mathlib.Numerals.{add-one}
 use native.Mathlib.Omega.{arith}
 use lib.Dec.{eqb, ltb, leb}
@@ -35,15 +33,6 @@ place-next n x k item more =
     (tells-ltb _ _ (λ l. record { item = λ s. item; rising = λ s. l; spare = λ s. absurd (omega arith) }) (λ p. p .rising (omega arith)))
 
 -- The left side.
-pub record PlacesBefore (n : ℕ) (x : Rule) (k : ℕ) : Type 0 where
-  pub places : (j : ℕ) → j < k → PlaceAccepted n x j
-
-pub places-none : {n : ℕ} {x : Rule} → PlacesBefore n x 0
-places-none = record { places = λ j s. absurd (not-suc-le-zero s) }
-
-pub places-more : {n : ℕ} {x : Rule} {k : ℕ} → PlacesBefore n x k → PlaceAccepted n x k → PlacesBefore n x (k + 1)
-places-more {n} {x} p a = record { places = below-more _ _ (p .places) a }
-
 pub left-none : (n : ℕ) (x : Rule) → x .count < 1 → Tells (LeftAccepted n x) false
 left-none n x h = tells-no (λ p. omega (arith, p .some))
 
@@ -53,8 +42,8 @@ left-many n x h = tells-no (λ p. omega (arith, p .few))
 pub left-bad : (n : ℕ) (x : Rule) (k : ℕ) → k < 8 → (PlaceAccepted n x k → ⊥) → Tells (LeftAccepted n x) false
 left-bad n x k s bad = tells-no (λ p. bad (p .places k s))
 
-pub left-good : (n : ℕ) (x : Rule) (k : ℕ) → 1 ≤ x .count → x .count ≤ 8 → 8 ≤ k → PlacesBefore n x k → Tells (LeftAccepted n x) true
-left-good n x k some few all p = tells-yes (record { some = some; few = few; places = λ j s. p .places j (omega arith) })
+pub left-good : (n : ℕ) (x : Rule) (k : ℕ) → 1 ≤ x .count → x .count ≤ 8 → 8 ≤ k → ((j : ℕ) → j < k → PlaceAccepted n x j) → Tells (LeftAccepted n x) true
+left-good n x k some few all p = tells-yes (record { some = some; few = few; places = λ j s. p j (omega arith) })
 
 -- One rule: what is wrong with any kind, then a cap, a floor and a follow.
 module _ (n : ℕ) (x : Rule) where
@@ -70,14 +59,14 @@ module _ (n : ℕ) (x : Rule) where
   pub cap-many : x .kind ≡ 0 → (x .count ≡ 1 → ⊥) → Tells (RuleAccepted n x) false
   cap-many e h = tells-no (λ p. h (p .single e))
 
-  pub cap-good : LeftAccepted n x → x .class .level ≤ 15 → x .kind ≡ 0 → x .count ≡ 1 → Tells (RuleAccepted n x) (eqb (x .right) 0)
-  cap-good l v e o =
+  no-follow-good : LeftAccepted n x → x .class .level ≤ 15 → x .kind < 2 → (x .kind ≡ 0 → x .count ≡ 1) → Tells (RuleAccepted n x) (eqb (x .right) 0)
+  no-follow-good l v e o =
       tells-eqb _ _
       (λ z. record {
         kind = omega arith;
         left = l;
         level = v;
-        single = λ s. o;
+        single = o;
         right = λ s. absurd (omega arith);
         levelless = λ s. absurd (omega arith);
         markless = λ s. absurd (omega arith);
@@ -85,20 +74,11 @@ module _ (n : ℕ) (x : Rule) where
       })
       (λ p. p .rightless (omega arith))
 
+  pub cap-good : LeftAccepted n x → x .class .level ≤ 15 → x .kind ≡ 0 → x .count ≡ 1 → Tells (RuleAccepted n x) (eqb (x .right) 0)
+  cap-good l v e o = no-follow-good l v (omega arith) (λ s. o)
+
   pub floor-good : LeftAccepted n x → x .class .level ≤ 15 → x .kind ≡ 1 → Tells (RuleAccepted n x) (eqb (x .right) 0)
-  floor-good l v e =
-      tells-eqb _ _
-      (λ z. record {
-        kind = omega arith;
-        left = l;
-        level = v;
-        single = λ s. absurd (omega arith);
-        right = λ s. absurd (omega arith);
-        levelless = λ s. absurd (omega arith);
-        markless = λ s. absurd (omega arith);
-        rightless = λ s. z;
-      })
-      (λ p. p .rightless (omega arith))
+  floor-good l v e = no-follow-good l v (omega arith) (λ s. absurd (omega arith))
 
   pub follow-out : x .kind ≡ 2 → n ≤ x .right → Tells (RuleAccepted n x) false
   follow-out e h = tells-no (λ p. omega (arith, p .right e))
@@ -135,15 +115,6 @@ module _ (at : ℕ → Rule) (m n r : ℕ) (x : Rule) (here : x ≡ at r) where
       (tells-leb _ _ (λ l. record { accepted = subst (RuleAccepted n) here a; order = λ s. l }) (λ p. p .order (omega arith)))
 
 -- All rules of a table.
-pub record StandingBefore (at : ℕ → Rule) (m n r : ℕ) : Type 0 where
-  pub each : (q : ℕ) → q < r → Standing at m n q
-
-pub standing-none : {at : ℕ → Rule} {m n : ℕ} → StandingBefore at m n 0
-standing-none = record { each = λ q s. absurd (not-suc-le-zero s) }
-
-pub standing-more : {at : ℕ → Rule} {m n r : ℕ} → StandingBefore at m n r → Standing at m n r → StandingBefore at m n (r + 1)
-standing-more p a = record { each = below-more _ _ (p .each) a }
-
 module _ (t : List ℕ) (m n : ℕ) where
   pub table-items : 256 < n → Tells (TableAccepted t m n) false
   table-items h = tells-no (λ p. omega (arith, p .accepted .items))
@@ -157,5 +128,5 @@ module _ (t : List ℕ) (m n : ℕ) where
   pub table-bad : (r : ℕ) → r < m → (Standing (recordAt t) m n r → ⊥) → Tells (TableAccepted t m n) false
   table-bad r s bad = tells-no (λ p. bad (p .accepted .each r s))
 
-  pub table-good : (r : ℕ) → n ≤ 256 → m ≤ 1024 → m * 13 ≤ length t → m ≤ r → StandingBefore (recordAt t) m n r → Tells (TableAccepted t m n) true
-  table-good r a b d all p = tells-yes (record { room = d; accepted = record { items = a; rules = b; each = λ q s. p .each q (omega arith) } })
+  pub table-good : (r : ℕ) → n ≤ 256 → m ≤ 1024 → m * 13 ≤ length t → m ≤ r → ((q : ℕ) → q < r → Standing (recordAt t) m n q) → Tells (TableAccepted t m n) true
+  table-good r a b d all p = tells-yes (record { room = d; accepted = record { items = a; rules = b; each = λ q s. p q (omega arith) } })

@@ -9,6 +9,7 @@ use lib.ListN.{length, take, drop}
 use lib.Seq.{length-take-le}
 use Rattle.labelling.specs.Classes.{classParts}
 use Rattle.labelling.specs.Parts.{Refused}
+use Rattle.labels.specs.Labels.{Room}
 use Rattle.labels.proofs.First.{first-not-all}
 use Rattle.rules.specs.Table.{bookOf}
 use Rattle.accepts.specs.Accepted.{TableAccepted}
@@ -18,7 +19,7 @@ use Rattle.refusals.specs.Numbers.{faultNumber}
 use Rattle.refusals.specs.declared.Fault.{Fault}
 use Rattle.reader.specs.Reading.{ReadSays}
 use Rattle.reader.specs.declared.ReadBook.{ReadBook}
-use Rattle.solver.specs.Solving.{Said, labelled, refused, said, Buffers, held, Room, WritesLabels, SolveSays, bad-table, no-room, no-labelling, writes-labels}
+use Rattle.solver.specs.Solving.{Said, labelled, refused, said, Buffers, held, WritesLabels, SolveSays, bad-table, no-room, no-labelling, writes-labels}
 use Rattle.solver.specs.declared.Solved.{Solved}
 use Rattle.writer.specs.Texts.{labelsText}
 use Rattle.writer.specs.Writing as writing
@@ -64,7 +65,7 @@ abbrev Told : List ℕ → ℕ → ℕ → Buffers → Said → Buffers → Type
 Told w m n before (labelled k) after = WritesLabels w m n k before after
 Told w m n before (refused k p) after = (k ≡ 9) × Refused classParts (bookOf w m n) p
 
-told : {w : List ℕ} {m n : ℕ} {before : Buffers} → TableAccepted w m n → Room n before → {s : Said} {after : Buffers} → SolveSays w m n before s after
+told : {w : List ℕ} {m n : ℕ} {before : Buffers} → TableAccepted w m n → Room n (before .levels) (before .marks) → {s : Said} {after : Buffers} → SolveSays w m n before s after
     → Told w m n before s after
 told ok room (bad-table x) = absurd (x .bad ok)
 told ok room (no-room x) = absurd (x .short room)
@@ -76,7 +77,7 @@ module _ {t : List ℕ} {n : ℕ} {w : List ℕ} {m : ℕ} {d : List ℕ} (ready
   given : Told w m n (held levels marks) (said a) (held levels′ marks′)
   given =
       told (ready .tables .rules)
-      (record { levels = omega (arith, levels-room, ready .tables .items .size); marks = omega (arith, marks-room, ready .tables .items .size) })
+      (record { forLevels = omega (arith, levels-room, ready .tables .items .size); forMarks = omega (arith, marks-room, ready .tables .items .size) })
       says
 
   told-as : {b : Solved} → a ≡ b → Told w m n (held levels marks) (said b) (held levels′ marks′)

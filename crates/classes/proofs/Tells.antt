@@ -1,13 +1,14 @@
--- What a bool answer tells: a statement tells one bool, `false` tells of a statement that is refuted and `true` of one that holds, and a test
--- of two numbers tells of a statement that holds exactly if the numbers are so. They rest on the meaning of the tests on numbers. Assumes nothing.
+-- What a bool answer tells: a statement tells one bool, `false` tells of a statement that is refuted and `true` of one that holds, and a test tells of
+-- a statement that holds exactly if the test is true, or if the numbers that it compares are so. They rest on the meaning of the tests on numbers.
+-- Assumes nothing.
 use mathlib.Core.Path.{_≡_, refl}
 use mathlib.Core.Bool.{Bool, true, false, not}
 use Prim.Native.Nat.{ℕ, _≤_, _<_}
-use native.Mathlib.Omega.{arith}
 use native.Mathlib.Nat.{not-le-of-lt}
 use lib.Dec.{eqb, ltb, leb}
 use borrow.Author.Tests.{eqb-true, eqb-false, ltb-true, ltb-false, leb-true, leb-false, not-true, not-false}
 use Rattle.classes.specs.Tells.{Tells}
+use Rattle.classes.proofs.Bools.{true-not-false}
 
 -- Two answers that tell of one statement are equal.
 pub tells-unique : {P : Type 0} {a b : Bool} → Tells P a → Tells P b → a ≡ b
@@ -18,13 +19,16 @@ tells-unique {a = false} {b = false} s t = refl
 
 -- Answers that tell.
 pub tells-no : {P : Type 0} → (P → ⊥) → Tells P false
-tells-no n = record { holds = λ e. let z : _≡_ {A = ℕ} 0 1 = cc in absurd (omega arith); fails = λ e. n }
+tells-no n = record { holds = λ e. absurd (true-not-false e refl); fails = λ e. n }
+
+pub tells-yes : {P : Type 0} → P → Tells P true
+tells-yes p = record { holds = λ e. p; fails = λ e. absurd (true-not-false refl e) }
+
+pub tells-test : {P : Type 0} {b : Bool} → (b ≡ true → P) → (P → b ≡ true) → Tells P b
+tells-test f g = record { holds = f; fails = λ e p. true-not-false (g p) e }
 
 pub tells-eqb : {P : Type 0} (a b : ℕ) → (a ≡ b → P) → (P → a ≡ b) → Tells P (eqb a b)
 tells-eqb a b f g = record { holds = λ e. f (eqb-true a b e); fails = λ e p. eqb-false a b e (g p) }
-
-pub tells-yes : {P : Type 0} → P → Tells P true
-tells-yes p = record { holds = λ e. p; fails = λ e. let z : _≡_ {A = ℕ} 0 1 = cc in absurd (omega arith) }
 
 pub tells-ltb : {P : Type 0} (a b : ℕ) → (a < b → P) → (P → a < b) → Tells P (ltb a b)
 tells-ltb a b f g = record { holds = λ e. f (ltb-true a b e); fails = λ e p. not-le-of-lt (g p) (ltb-false a b e) }

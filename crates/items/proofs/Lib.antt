@@ -1,5 +1,4 @@
--- Why it is true, and what callers cite: what bools tell, searches below a bound, names, the item table, looking up a name, and the count.
-pub mod Bools
+-- Why it is true, and what callers cite: the first number below a bound, names, the item table, looking up a name, and the count.
 pub mod Search
 pub mod Names
 pub mod Table

@@ -12,15 +12,16 @@ use lib.Dec.{ltb, leb}
 use lib.ListN.{length, getD}
 use borrow.Author.Tests.{eqb-true, eq-eqb, leb-true, le-leb, ltb-true, ltb-false}
 use Rattle.classes.specs.Tells.{Tells}
-use Rattle.classes.proofs.Tells.{tells-unique}
+use Rattle.classes.proofs.Bools.{true-not-false, and-left, and-right}
+use Rattle.classes.proofs.Every.{every-all, every-at}
+use Rattle.classes.proofs.Tells.{tells-unique, tells-test}
 use Rattle.items.specs.Search.{firstBelow}
 use Rattle.items.specs.Names.{nameRoom, isName}
-use Rattle.items.specs.Table.{mostItems, tableFits, entryByte, nameLen, nameOf, SameEntry, NameAt, ItemsOk}
+use Rattle.items.specs.Table.{mostItems, tableFits, entryByte, nameLen, nameOf, SameEntry, ItemsOk}
 use Rattle.items.specs.Lookup.{foundNumber, foundPlace, sameName, lookUp, findIn}
 use Rattle.items.specs.declared.Found.{Found}
 use Rattle.items.specs.declared.Found.the-variants.{At, Absent, BadTable}
-use Rattle.items.proofs.Bools.{true-not-false, and-left, and-right, tells-test}
-use Rattle.items.proofs.Search.{First, first-below, every-all, every-at}
+use Rattle.items.proofs.Search.{First, first-below}
 use Rattle.items.proofs.Names.{spelled-name}
 use Rattle.items.proofs.Table.{named-spelled, named-rest, nameOf-at, nameOf-past}
 
@@ -160,15 +161,15 @@ bad-number BadTable e = refl
 pub bad-place : (x : Found) → x ≡ BadTable → (foundNumber x ≡ 10) × (foundPlace x ≡ 0)
 bad-place x e = (ap foundNumber e, ap foundPlace e)
 
--- In a table that no writer refuses, the name of each item is a name, and it finds that item.
+-- In a table that no writer refuses, the name of each item is a name, the item has it, and it finds that item.
 pub name-is-name : {t : List ℕ} {n : ℕ} → ItemsOk t n → (i : ℕ) → i < n → isName (nameOf t i) ≡ true
 name-is-name o i h = spelled-name (named-spelled (o .names i h))
 
-own-name : (t : List ℕ) (i : ℕ) → NameAt t i → HasName t i (nameOf t i)
-own-name t i h = record { bytes = λ k l. go k l (decLe (nameLen t i) k) }
+pub own-name : {t : List ℕ} {n : ℕ} → ItemsOk t n → (i : ℕ) → i < n → HasName t i (nameOf t i)
+own-name {t} o i h = record { bytes = λ k l. go k l (decLe (nameLen t i) k) }
   where
     go : (k : ℕ) → k < nameRoom → Dec (nameLen t i ≤ k) → entryByte t i k ≡ getD (nameOf t i) k 0
-    go k l (yes g) = named-rest h .zeros k g l ∙ sym (nameOf-past t i k g)
+    go k l (yes g) = named-rest (o .names i h) .zeros k g l ∙ sym (nameOf-past t i k g)
     go k l (no g) = sym (nameOf-at t i k (omega arith))
 
 pub found-name : {t : List ℕ} {n : ℕ} → ItemsOk t n → (i : ℕ) → i < n → findIn t n (nameOf t i) ≡ At i
@@ -184,4 +185,4 @@ found-name {t} {n} o i h =
     }))
   where
     own : HasName t i (nameOf t i)
-    own = own-name t i (o .names i h)
+    own = own-name o i h

@@ -1,25 +1,12 @@
--- The searches below a bound: a test of each number tells of them all, and the first number of which a test says yes is one number. They
--- rest on induction from the low end. Assumes nothing.
-use mathlib.Core.Path.{_≡_, refl, ap₂}
-use mathlib.Core.Bool.{Bool, true, false, cond, _&&_}
+-- The search below a bound: the first number of which a test says yes is one number. It rests on induction from the low end. Assumes nothing.
+use mathlib.Core.Path.{_≡_, refl}
+use mathlib.Core.Bool.{Bool, true, false, cond}
 use Prim.Native.Nat.{ℕ, zero, suc, _≤_, _<_, zero-le}
 use native.Mathlib.Nat.{le-antisymm}
 use native.Mathlib.Decide.{decLe}
 use native.Mathlib.Omega.{arith}
-use Rattle.items.specs.Search.{everyBelow, firstBelow}
-use Rattle.items.proofs.Bools.{true-not-false, and-left, and-right}
-
--- The test says yes of each number below n exactly if `everyBelow` does.
-pub every-all : (n : ℕ) (f : ℕ → Bool) → ((k : ℕ) → k < n → f k ≡ true) → everyBelow n f ≡ true
-unfolding everyBelow
-every-all zero f h = refl
-every-all (suc n) f h = ap₂ _&&_ (h 0 (omega arith)) (every-all n (λ k. f (suc k)) (λ k l. h (suc k) (omega arith)))
-
-pub every-at : (n : ℕ) (f : ℕ → Bool) → everyBelow n f ≡ true → (k : ℕ) → k < n → f k ≡ true
-unfolding everyBelow
-every-at zero f e k l = absurd (omega arith)
-every-at (suc n) f e zero l = and-left (f 0) (everyBelow n (λ j. f (suc j))) e
-every-at (suc n) f e (suc k) l = every-at n (λ j. f (suc j)) (and-right (f 0) (everyBelow n (λ j. f (suc j))) e) k (omega arith)
+use Rattle.classes.proofs.Bools.{true-not-false}
+use Rattle.items.specs.Search.{firstBelow}
 
 -- i is the first number below n of which the test says yes, or n where it says no of each.
 pub record First (n : ℕ) (f : ℕ → Bool) (i : ℕ) : Type 0 where

@@ -1,4 +1,4 @@
--- What the contracts of `items` cite: searches below a bound, names, the item table, and what looking up a name answers.
+-- What the contracts of `items` cite: the first number below a bound, names, the item table, and what looking up a name answers.
 pub mod Search
 pub mod Names
 pub mod Table

@@ -5,7 +5,8 @@ use mathlib.Core.List.{List}
 use Prim.Native.Nat.{ℕ}
 use lib.Dec.{ltb, eqb}
 use lib.ListN.{getD}
-use Rattle.items.specs.Search.{everyBelow, firstBelow}
+use Rattle.classes.specs.Every.{everyBelow}
+use Rattle.items.specs.Search.{firstBelow}
 use Rattle.items.specs.Names.{nameRoom, isName}
 use Rattle.items.specs.Table.{tableFits, entryByte}
 use Rattle.items.specs.declared.Found.{Found}

@@ -9,10 +9,19 @@ use native.Mathlib.Omega.{arith}
 use lib.Dec.{eqb}
 use lib.ListN.{length, getD, take, drop, drop-of-length-le, List·getD-eq-default}
 use borrow.Author.Tests.{ne-eqb, eqb-true}
-use Rattle.items.proofs.Bools.{true-not-false, and-left, and-right}
+use Rattle.classes.proofs.Bools.{true-not-false, and-left, and-right}
 use Rattle.keys.specs.Keys.{keyText, startsWith, foundOr, keyOr, keyAt, nextRows, nextAllowed}
 use Rattle.keys.specs.declared.Key.{Key}
 use Rattle.keys.specs.declared.ReadKey.{ReadKey}
+
+-- No key's text is empty.
+pub key-some : (k : Key) → 1 ≤ length (keyText k)
+key-some Key.Form = omega arith
+key-some Key.Item = omega arith
+key-some Key.Cap = omega arith
+key-some Key.Floor = omega arith
+key-some Key.Follow = omega arith
+key-some Key.End = omega arith
 
 -- What it is to begin with given bytes.
 pub record Begins (x l : List ℕ) : Type 0 where

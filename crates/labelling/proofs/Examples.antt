@@ -7,12 +7,13 @@ use Prim.Native.Nat.{ℕ, _<_}
 use lib.Dec.{T, eqb, eqb→eq}
 use lib.ListN.{length, getD}
 use Rattle.classes.specs.Bits.{bit}
+use Rattle.classes.specs.Every.{everyBelow}
 use Rattle.classes.specs.Parts.{part, topOf}
 use Rattle.classes.specs.declared.Class.{Class}
 use Rattle.labelling.specs.Rules.{Book}
 use Rattle.labelling.specs.Classes.{classes, classParts}
 use Rattle.labelling.specs.Examples.{Answer, labels, refused, Example, labelsIn, Right, examples, p8}
-use Rattle.labelling.proofs.Search.{everyBelow, every-at, failing, and-left, and-right}
+use Rattle.labelling.proofs.Search.{every-at, failing, and-left, and-right}
 use Rattle.labelling.proofs.Settle.{tabulate, total, metDownb, metUpb, push, settle, greatestList, solvableb}
 use Rattle.labelling.proofs.Lowering.{numbersLattice}
 use Rattle.labelling.proofs.Trial.{leftb, ruleb, insideb, ceiling, leastb, labelsb, meetsb, wantedInb, wantedb, wantedb-holds, possibleb, refusedb, refusedb-holds}

@@ -1,50 +1,41 @@
 -- Searches among the numbers below a bound, by a test that computes.
 -- Assumes nothing.
-use mathlib.Core.Path.{_≡_}
-use mathlib.Core.Bool.{Bool, true, false, not, _&&_}
+use mathlib.Core.Path.{_≡_, refl, sym, subst}
+use mathlib.Core.Bool.{Bool, true, false, _&&_}
 use mathlib.Core.Option.{Option, none, some}
 use mathlib.Core.Logic.{_⊎_, inl, inr}
-use Prim.Native.Nat.{ℕ, zero, suc, _≤_, _<_}
-use native.Mathlib.Decide.{ℕ-discrete}
+use Prim.Native.Nat.{ℕ, zero, suc, _+_, _≤_, _<_}
 use native.Mathlib.Nat.{not-suc-le-zero}
 use native.Mathlib.Omega.{arith}
+use borrow.Author.Count.{below-more}
 use lib.Dec.{T}
+use Rattle.classes.specs.Every.{everyBelow}
+use Rattle.classes.proofs.Bools as bools
+use Rattle.classes.proofs.Every as every
 
--- Of each number below n the test says yes.
-unfoldable pub everyBelow : ℕ → (ℕ → Bool) → Bool
-everyBelow zero f = true
-everyBelow (suc n) f = f n && everyBelow n f
+-- A test that computes says yes exactly if it is true.
+is-true : (b : Bool) → T b → b ≡ true
+is-true true t = refl
+is-true false t = absurd t
+
+true-is : {b : Bool} → b ≡ true → T b
+true-is e = subst T (sym e) tt
 
 pub and-left : (a b : Bool) → T (a && b) → T a
-and-left true b t = tt
-and-left false b t = t
+and-left a b t = true-is (bools.and-left a b (is-true (a && b) t))
 
 pub and-right : (a b : Bool) → T (a && b) → T b
-and-right true b t = t
-and-right false b t = absurd t
+and-right a b t = true-is (bools.and-right a b (is-true (a && b) t))
 
-pub and-both : (a b : Bool) → T a → T b → T (a && b)
-and-both true b t u = u
-and-both false b t u = t
+pub every-at : (n : ℕ) (f : ℕ → Bool) → T (everyBelow n f) → (k : ℕ) → k < n → T (f k)
+every-at n f t k l = true-is (every.every-at n f (is-true (everyBelow n f) t) k l)
+
+pub every-all : (n : ℕ) (f : ℕ → Bool) → ((k : ℕ) → k < n → T (f k)) → T (everyBelow n f)
+every-all n f h = true-is (every.every-all n f (λ k l. is-true (f k) (h k l)))
 
 -- A statement of each number below n, and of n, is one of each number below n + 1.
 pub below-suc : {P : ℕ → Type 0} {n : ℕ} → ((k : ℕ) → k < n → P k) → P n → (k : ℕ) → k < suc n → P k
-below-suc {P} {n} h p k l = pick (ℕ-discrete k n)
-  where
-    pick : Dec (k ≡ n) → P k
-    pick (yes e) = rw e p
-    pick (no d) = h k (omega arith)
-
-pub every-at : (n : ℕ) (f : ℕ → Bool) → T (everyBelow n f) → (k : ℕ) → k < n → T (f k)
-unfolding everyBelow
-every-at zero f t k l = absurd (not-suc-le-zero l)
-every-at (suc n) f t k l =
-    below-suc {P = λ j. T (f j)} (every-at n f (and-right (f n) (everyBelow n f) t)) (and-left (f n) (everyBelow n f) t) k l
-
-pub every-all : (n : ℕ) (f : ℕ → Bool) → ((k : ℕ) → k < n → T (f k)) → T (everyBelow n f)
-unfolding everyBelow
-every-all zero f h = tt
-every-all (suc n) f h = and-both (f n) (everyBelow n f) (h n (omega arith)) (every-all n f (λ k l. h k (omega arith)))
+below-suc {P} {n} h p k l = below-more P n h p k (omega arith)
 
 -- A number below n of which the test says no, if there is one.
 unfoldable pub failing : ℕ → (ℕ → Bool) → Option ℕ

@@ -13,12 +13,13 @@ use native.Mathlib.Omega.{arith}
 use lib.Dec.{T}
 use lib.ListN.{length, getD, set, length-set}
 use lib.Seq.{getD-set-same, getD-set-other}
+use Rattle.classes.specs.Every.{everyBelow}
 use Rattle.labelling.specs.Values.{Values}
 use Rattle.labelling.specs.Rules.{Left, Rule, cap, floor, follow, Book, RuleInside, Inside, LeftInside, joinOver, Met}
 use Rattle.labelling.specs.Labelling.{Labelling}
 use Rattle.labelling.specs.Greatest.{MetDown, MetUp, HeldUp, PushedDown, Between, Greatest, Placed, Pushed}
 use Rattle.labelling.proofs.Lattice.{Lattice}
-use Rattle.labelling.proofs.Search.{everyBelow, every-at, every-all, failing, Failing, failing-tells}
+use Rattle.labelling.proofs.Search.{every-at, every-all, failing, Failing, failing-tells}
 use Rattle.labelling.proofs.Joins.{joinOver-grows}
 use Rattle.labelling.proofs.Placed.{placed-cases}
 

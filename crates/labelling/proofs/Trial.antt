@@ -7,11 +7,12 @@ use native.Mathlib.Decide.{ℕ-discrete, decLt}
 use native.Mathlib.Omega.{arith}
 use borrow.Author.Tests.{lt-ltb, le-ltb, eq-eqb, ne-eqb}
 use lib.Dec.{T, leb, ltb, eqb, leb→le, ltb→lt, T-not}
+use Rattle.classes.specs.Every.{everyBelow}
 use Rattle.labelling.specs.Values.{Values, numbers}
 use Rattle.labelling.specs.Rules.{Left, LeftInside, Rule, cap, floor, follow, Book, RuleInside, Inside, Met}
 use Rattle.labelling.specs.Labelling.{Labelling, FirstDifference, Wanted}
 use Rattle.labelling.specs.Parts.{Parts, inPart, partValues, Refused}
-use Rattle.labelling.proofs.Search.{everyBelow, every-at, and-left, and-right}
+use Rattle.labelling.proofs.Search.{every-at, and-left, and-right}
 use Rattle.labelling.proofs.Settle.{metDownb, downb-holds, metUpb, upb-holds, met-both, labelsOf, greatestList, solvableb, solvable-labels, labelling-solvable}
 use Rattle.labelling.proofs.Lowering.{numbersLattice}
 use Rattle.labelling.proofs.PartLaws.{PartLaws}

@@ -7,6 +7,7 @@ use native.Mathlib.Omega.{arith}
 use lib.Dec.{T}
 use lib.ListN.{length}
 use Rattle.classes.specs.Class.{classOf, lowest, highest}
+use Rattle.classes.specs.Every.{everyBelow}
 use Rattle.classes.specs.declared.Class.{Class}
 use Rattle.labelling.specs.Rules.{Book, Inside}
 use Rattle.labelling.specs.Labelling.{Labelling, Wanted}
@@ -14,7 +15,6 @@ use Rattle.labelling.specs.Parts.{Refused}
 use Rattle.labelling.specs.Classes.{classes, classParts}
 use Rattle.labelling.specs.Examples.{Example, Right, labelsIn, p3, p4}
 use Rattle.labelling.proofs.Trial.{leftb, ruleb, insideb, insideb-holds}
-use Rattle.labelling.proofs.Search.{everyBelow}
 use Rattle.labelling.proofs.Examples.{examples-right}
 use Rattle.labelling.proofs.Demands.{wanted-unique, refused-unlabelled}
 

@@ -1,5 +1,5 @@
--- The left side of a rule, one name after the other: the three things that a name can be followed by. They rest on induction over a bound on
--- the text's length.
+-- The left side of a rule, one name after the other: the three things that a name can be followed by, and what holds of every left side. They rest on
+-- induction over a bound on the text's length.
 -- Assumes nothing.
 use mathlib.Core.Path.{_≡_, refl, ap, _∙_, subst}
 use mathlib.Core.Bool.{Bool, true, false, cond}
@@ -73,45 +73,47 @@ module _ (l : List ℕ) (n : ℕ) (e : nameAt l ≡ ReadName.Found n) where
   unfolding afterName
   left-more f = left-step l ∙ rw (e, eq-eqb (byteAt (drop n l)) 43 f)
 
--- What a left side of c names and n bytes says: it has a byte, and stands within the text.
-pub record LeftHere (l : List ℕ) (c n : ℕ) : Type 0 where
-  pub some : 1 ≤ n
-  pub few : c ≤ n
-  pub least : 1 ≤ c
-  pub within : n ≤ length l
+-- What holds of one name, and of a name with a plus sign behind it and a left side of which it holds, holds of every left side that is read.
+module _ (P : List ℕ → ℕ → ℕ → Type 0) (one : (l : List ℕ) (n : ℕ) → nameAt l ≡ ReadName.Found n → P l 1 n)
+    (more : (l : List ℕ) (n c k : ℕ) → nameAt l ≡ ReadName.Found n → byteAt (drop n l) ≡ 43 → P (drop (n + 1) l) c k → P l (1 + c) (n + 1 + k)) where
+  abbrev LeftSays : List ℕ → ReadLeft → Type 0
+  LeftSays l ReadLeft.Bad = Unit
+  LeftSays l (ReadLeft.Found c n) = P l c n
 
-abbrev pub LeftSays : List ℕ → ReadLeft → Type 0
-LeftSays l ReadLeft.Bad = Unit
-LeftSays l (ReadLeft.Found c n) = LeftHere l c n
+  more-says : (l : List ℕ) (n : ℕ) (x : ReadLeft) → nameAt l ≡ ReadName.Found n → byteAt (drop n l) ≡ 43 → LeftSays (drop (n + 1) l) x
+      → LeftSays l (before 1 (n + 1) x)
+  more-says l n ReadLeft.Bad e f g = tt
+  more-says l n (ReadLeft.Found c k) e f g = more l n c k e f g
+
+  from-says : (f : ℕ) (l : List ℕ) → LeftSays l (leftFrom f l)
+  unfolding leftFrom afterName
+  from-says zero l = tt
+  from-says (suc f) l = after (nameAt l) refl (λ n. from-says f (drop (n + 1) l))
+    where
+      after : (x : ReadName) → nameAt l ≡ x → ((n : ℕ) → LeftSays (drop (n + 1) l) (leftFrom f (drop (n + 1) l)))
+          → LeftSays l (afterName (λ k. leftFrom f (drop k l)) l x)
+      after ReadName.Bad e g = tt
+      after (ReadName.Found n) e g = plus (eqb (byteAt (drop n l)) 43) refl
+        where
+          plus : (b : Bool) → eqb (byteAt (drop n l)) 43 ≡ b
+              → LeftSays l (cond b (before 1 (n + 1) (leftFrom f (drop (n + 1) l))) (ReadLeft.Found 1 n))
+          plus true d = more-says l n (leftFrom f (drop (n + 1) l)) e (eqb-true (byteAt (drop n l)) 43 d) (g n)
+          plus false d = one l n e
+
+  pub left-by : (l : List ℕ) (c n : ℕ) → leftAt l ≡ ReadLeft.Found c n → P l c n
+  left-by l c n e = subst (LeftSays l) e (from-says (length l) l)
 
 pub name-some : (l : List ℕ) (n : ℕ) → nameAt l ≡ ReadName.Found n → 1 ≤ n
 name-some l n e =
     let here = name-is-name l n e in
     omega (arith, name-spelled (take n l) (here .name) .least, length-take-le n l (here .within))
 
-more-says : (l : List ℕ) (n : ℕ) (x : ReadLeft) → n < length l → LeftSays (drop (n + 1) l) x → LeftSays l (before 1 (n + 1) x)
-more-says l n ReadLeft.Bad h g = tt
-more-says l n (ReadLeft.Found c k) h g = record {
-  some = omega arith;
-  few = omega (arith, g .few);
-  least = omega arith;
-  within = omega (arith, g .within, length-drop (n + 1) l);
-}
+-- What a left side of n bytes says: it has a byte, and stands within the text.
+pub record LeftHere (l : List ℕ) (n : ℕ) : Type 0 where
+  pub some : 1 ≤ n
+  pub within : n ≤ length l
 
-from-says : (f : ℕ) (l : List ℕ) → LeftSays l (leftFrom f l)
-unfolding leftFrom afterName
-from-says zero l = tt
-from-says (suc f) l = after (nameAt l) refl (λ n. from-says f (drop (n + 1) l))
-  where
-    after : (x : ReadName) → nameAt l ≡ x → ((n : ℕ) → LeftSays (drop (n + 1) l) (leftFrom f (drop (n + 1) l)))
-        → LeftSays l (afterName (λ k. leftFrom f (drop k l)) l x)
-    after ReadName.Bad e g = tt
-    after (ReadName.Found n) e g = plus (eqb (byteAt (drop n l)) 43) refl
-      where
-        plus : (b : Bool) → eqb (byteAt (drop n l)) 43 ≡ b
-            → LeftSays l (cond b (before 1 (n + 1) (leftFrom f (drop (n + 1) l))) (ReadLeft.Found 1 n))
-        plus true d = more-says l n (leftFrom f (drop (n + 1) l)) (byte-inside l n (omega (arith, eqb-true (byteAt (drop n l)) 43 d))) (g n)
-        plus false d = record { some = name-some l n e; few = name-some l n e; least = omega arith; within = name-is-name l n e .within }
-
-pub left-here : (l : List ℕ) (c n : ℕ) → leftAt l ≡ ReadLeft.Found c n → LeftHere l c n
-left-here l c n e = subst (LeftSays l) e (from-says (length l) l)
+pub left-here : (l : List ℕ) (c n : ℕ) → leftAt l ≡ ReadLeft.Found c n → LeftHere l n
+left-here =
+    left-by (λ l c n. LeftHere l n) (λ l n e. record { some = name-some l n e; within = name-is-name l n e .within })
+    (λ l n c k e f g. record { some = omega arith; within = omega (arith, g .within, length-drop (n + 1) l, byte-inside l n (omega arith)) })

@@ -22,7 +22,7 @@ use Rattle.scans.proofs.Places.{byte-inside}
 use Rattle.keys.specs.Keys.{keyText, keyAt}
 use Rattle.keys.specs.declared.Key.{Key}
 use Rattle.keys.specs.declared.ReadKey.{ReadKey}
-use Rattle.keys.proofs.KeyTexts.{key-is-text}
+use Rattle.keys.proofs.KeyTexts.{key-some, key-is-text}
 use Rattle.tokens.specs.Tokens.{nameAt, countAt, classAt}
 use Rattle.tokens.specs.declared.ReadName.{ReadName}
 use Rattle.tokens.specs.declared.ReadCount.{ReadCount}
@@ -316,14 +316,6 @@ item-few l v (ReadName.Found n) e f = subst (λ (y : ReadValue). LeftFew y) f mo
 
 value-few : (k : Key) (l : List ℕ) (v : Value) → valueAt k l ≡ ReadValue.Found v → k ≡ Key.Item → v .left ≤ nameRoom
 value-few k l v e f = item-few l v (nameAt l) refl (rw f at e)
-
-key-some : (k : Key) → 1 ≤ length (keyText k)
-key-some Key.Form = omega arith
-key-some Key.Item = omega arith
-key-some Key.Cap = omega arith
-key-some Key.Floor = omega arith
-key-some Key.Follow = omega arith
-key-some Key.End = omega arith
 
 pub key-stands : (s : List ℕ) (at : ℕ) (k : Key) (n : ℕ) → keyAt (drop at s) ≡ ReadKey.Found k n → Stands s at n
 key-stands s at k n e =

@@ -16,13 +16,13 @@ use mir.Val.{Fits}
 use types.Run.{OneOf}
 use denote.Enum as enum
 use borrow.Author.Tests.{eq-eqb, ne-eqb, lt-ltb, ltb-true}
-use Rattle.items.specs.Search.{everyBelow}
+use Rattle.classes.specs.Every.{everyBelow}
+use Rattle.classes.proofs.Bools.{true-not-false}
+use Rattle.classes.proofs.Every.{every-all, every-at}
 use Rattle.items.specs.Names.{nameByte}
 use Rattle.items.specs.Lookup.{findIn}
 use Rattle.items.specs.declared.Found.{Found}
 use Rattle.items.proofs.Found as found
-use Rattle.items.proofs.Bools.{true-not-false}
-use Rattle.items.proofs.Search.{every-all, every-at}
 use Rattle.scans.specs.Bytes.{runLen}
 use Rattle.scans.proofs.Runs.{run-le}
 use Rattle.puts.specs.Writing.{over}

@@ -12,8 +12,8 @@ use lib.Seq.{drop-drop}
 use mir.Syntax.{w64}
 use mir.Val.{Fits}
 use borrow.Author.Tests.{ltb-true}
+use Rattle.classes.proofs.Bools.{and-left}
 use Rattle.items.specs.Names.{nameRoom}
-use Rattle.items.proofs.Bools.{and-left}
 use Rattle.items.specs.Table.{mostItems}
 use Rattle.items.specs.Lookup.{findIn}
 use Rattle.rules.specs.Table.{ruleWords}

@@ -17,7 +17,7 @@ use Rattle.items.specs.Lookup.{findIn}
 use Rattle.items.specs.declared.Found.{Found}
 use Rattle.items.proofs.Names.{name-spelled, byte-not-zero}
 use Rattle.items.proofs.Table.{nameOf-length, nameOf-at, nameLen-is}
-use Rattle.items.proofs.Lookup.{HasName, find-lowest, find-absent, name-is-name, found-name}
+use Rattle.items.proofs.Lookup.{HasName, find-lowest, find-absent, name-is-name, own-name}
 use Rattle.items.proofs.Counted.{SameItems, items-counted}
 use Rattle.rules.specs.Table.{ruleWords, wordAt, recordAt}
 use Rattle.rules.specs.declared.Rule.{Rule}
@@ -60,10 +60,7 @@ module _ (t : List ℕ) (i : ℕ) (name : List ℕ) (e : isName name ≡ true) (
 pub found-bytes : (t : List ℕ) (n : ℕ) (name : List ℕ) (i : ℕ) → findIn t n name ≡ Found.At i → nameOf t i ≡ name
 found-bytes t n name i e = let f = find-lowest t n name i e in has-name-of t i name (f .spelled) (f .here)
 
--- Each entry of a right table has its own name, and tables that are equal up to n have the same names.
-pub own-name : {t : List ℕ} {n : ℕ} → ItemsOk t n → (i : ℕ) → i < n → HasName t i (nameOf t i)
-own-name {t} {n} o i l = find-lowest t n (nameOf t i) i (found-name o i l) .here
-
+-- Tables that are equal up to n have the same names.
 pub same-names : {n : ℕ} {t u : List ℕ} → SameItems n t u → ItemsOk t n → (i : ℕ) → i < n → nameOf u i ≡ nameOf t i
 same-names {n} {t} {u} s o i l =
     has-name-of u i (nameOf t i) (name-is-name o i l) (record { bytes = λ k g. sym (s .bytes i k l g) ∙ own-name o i l .bytes k g })

@@ -12,11 +12,11 @@ use Rattle.items.specs.Table.{mostItems, entryByte, nameOf, ItemsOk}
 use Rattle.items.specs.Lookup.{findIn}
 use Rattle.items.specs.declared.Found.{Found}
 use Rattle.items.proofs.Names.{name-spelled}
-use Rattle.items.proofs.Lookup.{HasName, find-is, name-is-name, found-name}
+use Rattle.items.proofs.Lookup.{HasName, find-is, name-is-name, own-name, found-name}
 use Rattle.items.proofs.Counted.{SameItems, find-counted}
 use Rattle.puts.specs.Writing.{over}
 use Rattle.rulebook.proofs.Buffers.{over-before, zeros-at, SameFront, front-items}
-use Rattle.rulebook.proofs.Entries.{own-name, Spare, added-length, added-has, added-spare}
+use Rattle.rulebook.proofs.Entries.{Spare, added-length, added-has, added-spare}
 
 -- The item table has its whole room, the first i items of t, and zeros behind them.
 pub record Holds (t : List ℕ) (i : ℕ) (names : List ℕ) : Type 0 where

@@ -2,16 +2,16 @@
 -- three kinds of rule. They rest on the table of keys, row by row.
 -- Assumes nothing.
 use mathlib.Core.Path.{_≡_, refl, sym, _∙_}
-use mathlib.Core.Bool.{Bool, true, false, cond, _&&_, not}
+use mathlib.Core.Bool.{Bool, true, cond, _&&_, Bool·beq}
 use mathlib.Core.List.{List}
 use Prim.Native.Nat.{ℕ, zero, suc, _+_, _≤_, _<_}
 use native.Mathlib.Decide.{decLt}
 use native.Mathlib.Omega.{arith}
 use lib.Dec.{leb, eqb}
 use borrow.Author.Tests.{leb-true, le-leb, eqb-true, ne-eqb}
-use Rattle.items.specs.Search.{everyBelow}
-use Rattle.items.proofs.Bools.{true-not-false, and-left, and-right}
-use Rattle.items.proofs.Search.{every-at}
+use Rattle.classes.specs.Every.{everyBelow}
+use Rattle.classes.proofs.Bools.{true-not-false, and-left, and-right, beq-same}
+use Rattle.classes.proofs.Every.{every-at}
 use Rattle.rules.specs.Record.{byKind}
 use Rattle.keys.specs.Keys.{keyNumber, nextAllowed}
 use Rattle.keys.specs.declared.Key.{Key}
@@ -22,24 +22,15 @@ use Rattle.reader.specs.Lines.{State, ruleKind, ruleStep, keyStep}
 abbrev mayCome : ℕ → ℕ → Bool
 mayCome after key = cond (eqb key 0) (eqb after 0) (leb 1 after && leb after (key + 1))
 
-abbrev agree : Bool → Bool → Bool
-agree a b = cond a b (not b)
-
-agree-same : (a b : Bool) → agree a b ≡ true → a ≡ b
-agree-same true true e = refl
-agree-same true false e = absurd (true-not-false e refl)
-agree-same false true e = absurd (true-not-false e refl)
-agree-same false false e = refl
-
-rows : everyBelow 6 (λ a. everyBelow 6 (λ k. agree (nextAllowed a k) (mayCome a k))) ≡ true
+rows : everyBelow 6 (λ a. everyBelow 6 (λ k. Bool·beq (nextAllowed a k) (mayCome a k))) ≡ true
 unfolding everyBelow nextAllowed
 rows = refl
 
 next-inside : (after key : ℕ) → after < 6 → key < 6 → nextAllowed after key ≡ mayCome after key
 next-inside after key h g =
-    agree-same (nextAllowed after key) (mayCome after key)
-    (every-at 6 (λ k. agree (nextAllowed after k) (mayCome after k))
-    (every-at 6 (λ a. everyBelow 6 (λ k. agree (nextAllowed a k) (mayCome a k))) rows after h) key g)
+    beq-same (nextAllowed after key) (mayCome after key)
+    (every-at 6 (λ k. Bool·beq (nextAllowed after k) (mayCome after k))
+    (every-at 6 (λ a. everyBelow 6 (λ k. Bool·beq (nextAllowed a k) (mayCome a k))) rows after h) key g)
 
 next-comes : (after key : ℕ) → nextAllowed after key ≡ true → mayCome after key ≡ true
 next-comes after key e = go (decLt after 6) (decLt key 6)

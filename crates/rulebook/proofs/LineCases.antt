@@ -8,10 +8,10 @@ use Prim.Native.Nat.{ℕ, zero, suc, _+_, _≤_, _<_}
 use lib.Dec.{ltb, leb, eqb}
 use lib.ListN.{length, drop}
 use borrow.Author.Tests.{ltb-true, leb-true, eqb-true}
+use Rattle.classes.proofs.Bools.{true-not-false, and-left, and-right}
 use Rattle.items.specs.Table.{mostItems}
 use Rattle.items.specs.Lookup.{findIn}
 use Rattle.items.specs.declared.Found.{Found}
-use Rattle.items.proofs.Bools.{true-not-false, and-left, and-right}
 use Rattle.accepts.specs.Accepted.{mostRules, mostLeft}
 use Rattle.keys.specs.Keys.{keyNumber, nextAllowed}
 use Rattle.keys.specs.declared.Key.{Key}
@@ -24,18 +24,18 @@ use Rattle.reader.specs.Names.{isItem, everyItem, rising}
 use Rattle.reader.specs.Lines.{State, Result, resultOf, Turn, on, stop, refuse, counted, itemName, isAbsent, withItem, itemStep, ruleKind, leftPlaces, leftNumbers, rightFound, withRule, allFound, ruleStep, endStep, keyStep, lineStep, step}
 use Rattle.reader.specs.Reading.{goOn, readFrom}
 use Rattle.rulebook.proofs.KeyRows.{next-form, NextRow, next-row, keyOfKind}
-use Rattle.rulebook.proofs.LineFacts.{LineHere, line-here, FormValue, ItemValue, EndValue, RuleValue, form-value, item-value, end-value, cap-value, floor-value, follow-value}
+use Rattle.rulebook.proofs.LineFacts.{LineParts, line-parts, FormValue, ItemValue, EndValue, RuleValue, form-value, item-value, end-value, cap-value, floor-value, follow-value}
 
 -- A line that is accepted, of each sort.
 module _ (st : State) (l : List ℕ) (x : Line) where
   pub record FormRead : Type 0 where
-    pub here : LineHere l x
+    pub here : LineParts l x
     pub keyed : x .key ≡ Key.Form
     pub first : st .counts .after ≡ 0
     pub value : FormValue (drop (x .from) l) (x .value)
 
   pub record ItemRead : Type 0 where
-    pub here : LineHere l x
+    pub here : LineParts l x
     pub keyed : x .key ≡ Key.Item
     pub row : NextRow (st .counts .after) 1
     pub value : ItemValue (drop (x .from) l) (x .value)
@@ -43,7 +43,7 @@ module _ (st : State) (l : List ℕ) (x : Line) where
     pub new : findIn (st .names) (st .counts .items) (itemName l x) ≡ Found.Absent
 
   pub record RuleRead : Type 0 where
-    pub here : LineHere l x
+    pub here : LineParts l x
     pub keyed : x .key ≡ keyOfKind (ruleKind (x .key))
     pub number : keyNumber (x .key) ≡ 2 + ruleKind (x .key)
     pub row : NextRow (st .counts .after) (2 + ruleKind (x .key))
@@ -55,7 +55,7 @@ module _ (st : State) (l : List ℕ) (x : Line) where
     pub rises : rising (x .value .names) (leftPlaces (leftNumbers st l x)) ≡ true
 
   pub record EndRead : Type 0 where
-    pub here : LineHere l x
+    pub here : LineParts l x
     pub keyed : x .key ≡ Key.End
     pub row : NextRow (st .counts .after) 5
     pub value : EndValue (drop (x .from) l) (x .value)
@@ -83,7 +83,7 @@ absent-is (Found.At i) e = absurd (true-not-false e refl)
 absent-is Found.Absent e = refl
 absent-is Found.BadTable e = absurd (true-not-false e refl)
 
-module _ (st : State) (l : List ℕ) (P : State → ℕ → Type 0) (Q : Result → Type 0) (cases : Cases st l P Q) (x : Line) (here : LineHere l x) where
+module _ (st : State) (l : List ℕ) (P : State → ℕ → Type 0) (Q : Result → Type 0) (cases : Cases st l P Q) (x : Line) (here : LineParts l x) where
   item-turn : x .key ≡ Key.Item → NextRow (st .counts .after) 1 → ItemValue (drop (x .from) l) (x .value) → TurnSays P Q (itemStep st l x)
   unfolding itemStep
   item-turn key row value = few (ltb (st .counts .items) mostItems) refl
@@ -184,7 +184,7 @@ line-turn st l P Q cases (ReadLine.Found x) e = allowed (nextAllowed (st .counts
   where
     allowed : (b : Bool) → nextAllowed (st .counts .after) (keyNumber (x .key)) ≡ b
         → TurnSays P Q (cond b (keyStep (x .key) st l x) (refuse st Fault.Order))
-    allowed true f = key-turn st l P Q cases x (line-here l x e) (x .key) refl f
+    allowed true f = key-turn st l P Q cases x (line-parts l x e) (x .key) refl f
     allowed false f = cases .refused _ _
 
 step-says : (st : State) (l : List ℕ) (P : State → ℕ → Type 0) (Q : Result → Type 0) → Cases st l P Q → TurnSays P Q (step st l)

@@ -23,7 +23,7 @@ use Rattle.tokens.specs.Tokens.{nameOfRun, nameAt, countAt, classAt}
 use Rattle.tokens.specs.declared.ReadName.{ReadName}
 use Rattle.tokens.specs.declared.ReadCount.{ReadCount}
 use Rattle.tokens.specs.declared.ReadClass.{ReadClass}
-use Rattle.lines.specs.Left.{before, afterName, leftFrom, leftAt}
+use Rattle.lines.specs.Left.{leftAt}
 use Rattle.lines.specs.Values.{unnamed, named, formAt, itemOf, itemAt, capOf, capAt, floorOf, floorAt, followOf, followAt, endOf, endAt, classBehind, withClass, rightBehind, withRight, valueAt}
 use Rattle.lines.specs.Lines.{ended, lineOf, lineAt, lineLen}
 use Rattle.lines.specs.declared.left.ReadLeft.{ReadLeft}
@@ -31,6 +31,7 @@ use Rattle.lines.specs.declared.value.Value.{Value}
 use Rattle.lines.specs.declared.value.ReadValue.{ReadValue}
 use Rattle.lines.specs.declared.Line.{Line}
 use Rattle.lines.specs.declared.ReadLine.{ReadLine}
+use Rattle.lines.proofs.Sides.{left-by}
 
 -- A name that is read is the whole run of its bytes.
 abbrev RunSays : List ℕ → ReadName → Type 0
@@ -72,34 +73,13 @@ pub names-some : (c : ℕ) (l : List ℕ) (n : ℕ) → LeftNames c l n → 1 �
 names-some zero l n h = absurd h
 names-some (suc c) l n h = omega arith
 
-abbrev LeftSays : List ℕ → ReadLeft → Type 0
-LeftSays l ReadLeft.Bad = Unit
-LeftSays l (ReadLeft.Found c n) = LeftNames c l n
-
-more-says : (l : List ℕ) (n : ℕ) (x : ReadLeft) → nameAt l ≡ ReadName.Found n → byteAt (drop n l) ≡ 43 → LeftSays (drop (n + 1) l) x
-    → LeftSays l (before 1 (n + 1) x)
-more-says l n ReadLeft.Bad e f g = tt
-more-says l n (ReadLeft.Found zero k) e f g = absurd g
-more-says l n (ReadLeft.Found (suc c) k) e f g =
-    rw (one-add (suc c)) (record { first = n; name = e; plus = f; rest = k; size = refl; others = g })
-
-from-says : (f : ℕ) (l : List ℕ) → LeftSays l (leftFrom f l)
-unfolding leftFrom afterName
-from-says zero l = tt
-from-says (suc f) l = after (nameAt l) refl (λ n. from-says f (drop (n + 1) l))
-  where
-    after : (x : ReadName) → nameAt l ≡ x → ((n : ℕ) → LeftSays (drop (n + 1) l) (leftFrom f (drop (n + 1) l)))
-        → LeftSays l (afterName (λ k. leftFrom f (drop k l)) l x)
-    after ReadName.Bad e g = tt
-    after (ReadName.Found n) e g = plus (eqb (byteAt (drop n l)) 43) refl
-      where
-        plus : (b : Bool) → eqb (byteAt (drop n l)) 43 ≡ b
-            → LeftSays l (cond b (before 1 (n + 1) (leftFrom f (drop (n + 1) l))) (ReadLeft.Found 1 n))
-        plus true d = more-says l n (leftFrom f (drop (n + 1) l)) e (eqb-true (byteAt (drop n l)) 43 d) (g n)
-        plus false d = e
-
 pub left-names : (l : List ℕ) (c n : ℕ) → leftAt l ≡ ReadLeft.Found c n → LeftNames c l n
-left-names l c n e = subst (LeftSays l) e (from-says (length l) l)
+left-names = left-by (λ l c n. LeftNames c l n) (λ l n e. e) more
+  where
+    more : (l : List ℕ) (n c k : ℕ) → nameAt l ≡ ReadName.Found n → byteAt (drop n l) ≡ 43 → LeftNames c (drop (n + 1) l) k
+        → LeftNames (1 + c) l (n + 1 + k)
+    more l n zero k e f g = absurd g
+    more l n (suc c) k e f g = rw (one-add (suc c)) (record { first = n; name = e; plus = f; rest = k; size = refl; others = g })
 
 -- What stands behind the colon: a class, or a name.
 pub record ClassTail (l : List ℕ) (v : Value) : Type 0 where
@@ -225,33 +205,33 @@ module _ (l : List ℕ) (v : Value) where
   end-value e = subst (ValueSays EndValue l) e (end-says l (countAt l) refl)
 
 -- A line: its key, its value, and LF behind them.
-pub record LineHere (l : List ℕ) (x : Line) : Type 0 where
+pub record LineParts (l : List ℕ) (x : Line) : Type 0 where
   pub key : keyAt l ≡ ReadKey.Found (x .key) (x .from)
   pub value : valueAt (x .key) (drop (x .from) l) ≡ ReadValue.Found (x .value)
   pub last : byteAt (drop (x .from + x .value .len) l) ≡ 10
 
-abbrev LineSays : List ℕ → ReadLine → Type 0
-LineSays l ReadLine.Bad = Unit
-LineSays l (ReadLine.Found x) = LineHere l x
+abbrev PartsSay : List ℕ → ReadLine → Type 0
+PartsSay l ReadLine.Bad = Unit
+PartsSay l (ReadLine.Found x) = LineParts l x
 
-ended-says : (l : List ℕ) (k : Key) (n : ℕ) (y : ReadValue) → keyAt l ≡ ReadKey.Found k n → valueAt k (drop n l) ≡ y → LineSays l (ended l k n y)
+ended-says : (l : List ℕ) (k : Key) (n : ℕ) (y : ReadValue) → keyAt l ≡ ReadKey.Found k n → valueAt k (drop n l) ≡ y → PartsSay l (ended l k n y)
 ended-says l k n ReadValue.Bad e f = tt
 ended-says l k n (ReadValue.Found v) e f = says (eqb (byteAt (drop (n + v .len) l)) 10) refl
   where
     says : (b : Bool) → eqb (byteAt (drop (n + v .len) l)) 10 ≡ b
-        → LineSays l (cond b (ReadLine.Found (record { key = k; from = n; value = v })) ReadLine.Bad)
+        → PartsSay l (cond b (ReadLine.Found (record { key = k; from = n; value = v })) ReadLine.Bad)
     says true d = record { key = e; value = f; last = eqb-true (byteAt (drop (n + v .len) l)) 10 d }
     says false d = tt
 
-line-says : (l : List ℕ) (y : ReadKey) → keyAt l ≡ y → LineSays l (lineOf l y)
-line-says l ReadKey.Bad e = tt
-line-says l (ReadKey.Found k n) e = ended-says l k n (valueAt k (drop n l)) e refl
+parts-say : (l : List ℕ) (y : ReadKey) → keyAt l ≡ y → PartsSay l (lineOf l y)
+parts-say l ReadKey.Bad e = tt
+parts-say l (ReadKey.Found k n) e = ended-says l k n (valueAt k (drop n l)) e refl
 
-pub line-here : (l : List ℕ) (x : Line) → lineAt l ≡ ReadLine.Found x → LineHere l x
-line-here l x e = subst (LineSays l) e (line-says l (keyAt l) refl)
+pub line-parts : (l : List ℕ) (x : Line) → lineAt l ≡ ReadLine.Found x → LineParts l x
+line-parts l x e = subst (PartsSay l) e (parts-say l (keyAt l) refl)
 
 -- The bytes of a line: its key's text, its value's bytes, and LF.
-pub line-text : (l : List ℕ) (x : Line) → LineHere l x
+pub line-text : (l : List ℕ) (x : Line) → LineParts l x
     → take (lineLen x) l ≡ keyText (x .key) ++ take (x .value .len) (drop (x .from) l) ++ (10 ∷ [])
 line-text l x h =
     take-byte (x .from + x .value .len) l 10 (h .last) (omega arith)

@@ -10,10 +10,10 @@ use native.Mathlib.Omega.{arith}
 use lib.ListN.{getD, take, drop}
 use lib.Seq.{take-add, drop-drop}
 use borrow.Author.Tests.{lt-ltb, le-ltb}
+use Rattle.classes.proofs.Bools.{and-left, and-right}
 use Rattle.items.specs.Names.{nameByte}
 use Rattle.items.specs.Table.{nameOf}
 use Rattle.items.specs.Lookup.{findIn}
-use Rattle.items.proofs.Bools.{and-left, and-right}
 use Rattle.rules.specs.Record.{leftItem}
 use Rattle.rules.specs.declared.Rule.{Rule}
 use Rattle.rules.proofs.Meaning.{by-kind}

@@ -12,22 +12,22 @@ use lib.Dec.{ltb}
 use lib.ListN.{length, getD, List·getD-eq-default}
 use lib.Seq.{take-at, drop-at, drop-drop}
 use borrow.Author.Tests.{lt-ltb}
+use Rattle.classes.proofs.Every.{every-all}
 use Rattle.items.specs.Names.{nameByte, isName}
 use Rattle.items.specs.Lookup.{findIn}
 use Rattle.items.specs.declared.Found.{Found}
 use Rattle.items.proofs.Names.{name-spelled}
-use Rattle.items.proofs.Search.{every-all}
 use Rattle.rules.specs.Record.{byKind, leftItem}
 use Rattle.rules.specs.declared.Rule.{Rule}
 use Rattle.accepts.specs.Accepted.{mostLeft, LeftAccepted}
 use Rattle.scans.specs.Bytes.{runLen}
 use Rattle.reader.specs.Names.{firstName, restNames, everyItem, numbersOf, rising}
 use Rattle.reader.specs.Lines.{leftPlaces, rightItemAt}
+use Rattle.reader.proofs.LookUps.{right-none, right-some}
 use Rattle.writer.specs.Texts.{pieces}
 use Rattle.rulebook.proofs.LinesRead.{plus-no-name, colon-no-name, name-before, signed}
 use Rattle.rulebook.proofs.LineFacts.{name-run}
 use Rattle.rulebook.proofs.Entries.{places-at}
-use Rattle.rulebook.proofs.Numbers.{right-none, right-some}
 
 -- The first name of a text, and what stands behind it and the byte that follows it.
 module _ (x : List ℕ) (b : ℕ) (rest : List ℕ) (e : isName x ≡ true) (f : nameByte b ≡ false) where
@@ -120,8 +120,8 @@ module _ {n : ℕ} {x : Rule} (a : LeftAccepted n x) where
 -- The right name of a follow gives its item; a cap and a floor have none, which gives item 0.
 pub right-found : (t : List ℕ) (n k : ℕ) (class x rest : List ℕ) (i : ℕ) → (k < 2 → i ≡ 0) → (2 ≤ k → findIn t n x ≡ Found.At i)
     → (2 ≤ k → isName x ≡ true) → rightItemAt t n (byKind k 0 0 (length x)) (byKind k class class x ++ 10 ∷ rest) ≡ Found.At i
-right-found t n zero class x rest i z f ok = right-none t n 0 _ refl ∙ ap Found.At (sym (z (omega arith)))
-right-found t n (suc zero) class x rest i z f ok = right-none t n 0 _ refl ∙ ap Found.At (sym (z (omega arith)))
+right-found t n zero class x rest i z f ok = sym (right-none t n 0 _ refl) ∙ ap Found.At (sym (z (omega arith)))
+right-found t n (suc zero) class x rest i z f ok = sym (right-none t n 0 _ refl) ∙ ap Found.At (sym (z (omega arith)))
 right-found t n (suc (suc k)) class x rest i z f ok =
-    right-some t n (length x) (x ++ 10 ∷ rest) (name-spelled x (ok (omega arith)) .least)
+    sym (right-some t n (length x) (x ++ 10 ∷ rest) (λ e. omega (arith, name-spelled x (ok (omega arith)) .least)) refl)
     ∙ rw (take-at x (10 ∷ rest) (length x) refl) (f (omega arith))

@@ -1,7 +1,7 @@
 -- The items that a rule's names are: those of the left side, which is accepted where they are found and rise, and the right one. They rest on the
 -- laws of looking up a name.
 -- Assumes nothing.
-use mathlib.Core.Path.{_≡_, refl, ap, _∙_}
+use mathlib.Core.Path.{_≡_, refl, sym, ap, _∙_}
 use mathlib.Core.Bool.{true}
 use mathlib.Core.List.{List}
 use Prim.Native.Nat.{ℕ, zero, suc, _+_, _-_, _≤_, _<_}
@@ -9,18 +9,19 @@ use native.Mathlib.Decide.{decLt}
 use native.Mathlib.Omega.{arith}
 use lib.Dec.{ltb}
 use lib.ListN.{length, getD, take, drop, List·getD-eq-default}
-use borrow.Author.Tests.{ltb-true, eq-eqb, ne-eqb}
+use borrow.Author.Tests.{ltb-true}
+use Rattle.classes.proofs.Bools.{true-not-false, and-left, and-right}
+use Rattle.classes.proofs.Every.{every-at}
 use Rattle.items.specs.Lookup.{findIn}
 use Rattle.items.specs.declared.Found.{Found}
-use Rattle.items.proofs.Bools.{true-not-false, and-left, and-right}
-use Rattle.items.proofs.Search.{every-at}
 use Rattle.items.proofs.Lookup.{find-lowest}
 use Rattle.accepts.specs.Accepted.{PlaceAccepted, RuleAccepted}
 use Rattle.tokens.proofs.Tokens.{class-is-text}
 use Rattle.lines.proofs.Sides.{name-some}
 use Rattle.lines.specs.declared.Line.{Line}
 use Rattle.reader.specs.Names.{firstName, restNames, isItem, itemNumber, everyItem, numbersOf, rising}
-use Rattle.reader.specs.Lines.{State, ruleKind, leftPlaces, leftNumbers, rightItemAt, rightFound, ruleOf}
+use Rattle.reader.specs.Lines.{State, ruleKind, leftPlaces, leftNumbers, rightFound, ruleOf}
+use Rattle.reader.proofs.LookUps.{right-none, right-some}
 use Rattle.rulebook.proofs.LineFacts.{names-some}
 use Rattle.rulebook.proofs.LineCases.{RuleRead}
 use Rattle.rulebook.proofs.Entries.{places-at}
@@ -48,15 +49,6 @@ numbers-below t n (suc c) l e (suc k) h = numbers-below t n c (restNames l) (and
 pub rising-at : (c : ℕ) (left : List ℕ) → rising c left ≡ true → (k : ℕ) → suc k < c → getD left k 0 < getD left (suc k) 0
 unfolding rising
 rising-at c left e k h = ltb-true _ _ (every-at (c - 1) (λ j. ltb (getD left j 0) (getD left (suc j) 0)) e k (omega arith))
-
--- The right name.
-pub right-none : (t : List ℕ) (n len : ℕ) (l : List ℕ) → len ≡ 0 → rightItemAt t n len l ≡ Found.At 0
-unfolding rightItemAt
-right-none t n len l e = rw (eq-eqb len 0 e)
-
-pub right-some : (t : List ℕ) (n len : ℕ) (l : List ℕ) → 1 ≤ len → rightItemAt t n len l ≡ findIn t n (take len l)
-unfolding rightItemAt
-right-some t n len l h = rw (ne-eqb len 0 (λ e. omega arith))
 
 -- A rule that is read is accepted.
 module _ (st : State) (l : List ℕ) (x : Line) (h : RuleRead st l x) where
@@ -88,7 +80,9 @@ module _ (st : State) (l : List ℕ) (x : Line) (h : RuleRead st l x) where
 
   pub right-name : ruleKind (x .key) ≡ 2
       → rightFound st l x ≡ findIn (st .names) (st .counts .items) (take (x .value .right) (drop (x .from + x .value .left + 1) l))
-  right-name z = right-some (st .names) (st .counts .items) (x .value .right) _ (name-some _ _ (h .value .named z .name))
+  right-name z =
+      let some = name-some _ _ (h .value .named z .name) in
+      sym (right-some (st .names) (st .counts .items) (x .value .right) _ (λ e. omega arith) refl)
 
   right-below : ruleKind (x .key) ≡ 2 → itemNumber (rightFound st l x) < st .counts .items
   right-below z = rw (right-name z) (item-below (st .names) (st .counts .items) _ (rw (right-name z) at (h .right)))
@@ -106,5 +100,5 @@ module _ (st : State) (l : List ℕ) (x : Line) (h : RuleRead st l x) where
     right = right-below;
     levelless = λ z. rw (h .value .named z .class);
     markless = λ z. rw (h .value .named z .class);
-    rightless = λ z. ap itemNumber (right-none (st .names) (st .counts .items) (x .value .right) _ (h .value .classed z .right));
+    rightless = λ z. ap itemNumber (sym (right-none (st .names) (st .counts .items) (x .value .right) _ (h .value .classed z .right)));
   }

@@ -10,8 +10,8 @@ use lib.Dec.{ltb, leb}
 use lib.ListN.{length, take, drop}
 use lib.Seq.{length-take-le}
 use borrow.Author.Tests.{le-ltb, ltb-false, le-leb, leb-true}
+use Rattle.classes.proofs.Bools.{and-left, and-right}
 use Rattle.items.specs.Names.{nameRoom}
-use Rattle.items.proofs.Bools.{and-left, and-right}
 use Rattle.rules.specs.Table.{ruleWords}
 use Rattle.puts.specs.Writing.{over}
 use Rattle.refusals.specs.declared.Fault.{Fault}

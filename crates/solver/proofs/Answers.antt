@@ -18,7 +18,8 @@ use Rattle.labelling.proofs.Whole.{parts-wanted-below, refused-below}
 use Rattle.rules.specs.Table.{bookOf}
 use Rattle.accepts.specs.Accepted.{TableAccepted}
 use Rattle.accepts.proofs.Inside.{table-inside}
-use Rattle.solver.specs.Solving.{Buffers, held, labelsOf, Room, refused, labelled, SolveSays, bad-table, no-room, no-labelling, writes-labels}
+use Rattle.labels.specs.Labels.{Room}
+use Rattle.solver.specs.Solving.{Buffers, held, labelsOf, refused, labelled, SolveSays, bad-table, no-room, no-labelling, writes-labels}
 use Rattle.solver.specs.Steps.{labelsAt}
 use Rattle.solver.specs.Lowers.{Copied}
 use Rattle.solver.specs.Labels.{Bounded, WantedEverywhere, LabelSays}
@@ -27,12 +28,12 @@ use Rattle.solver.specs.declared.label.Outcome.the-variants.{Done, Witho
 
 -- Where labelling starts: the highest class at every item.
 pub record Highest (n : ℕ) (b : Buffers) : Type 0 where
-  pub room : Room n b
+  pub room : Room n (b .levels) (b .marks)
   pub labels : (i : ℕ) → i < n → labelsOf b i ≡ highest
 
 pub highest-start : (n : ℕ) → n ≤ 256 → Highest n (held (replicate 256 15) (replicate 256 0xffff_ffff_ffff_ffff))
 highest-start n s = record {
-  room = record { levels = omega (arith, length-replicate {A = ℕ} 256 15); marks = omega (arith, length-replicate {A = ℕ} 256 0xffff_ffff_ffff_ffff) };
+  room = record { forLevels = omega (arith, length-replicate {A = ℕ} 256 15); forMarks = omega (arith, length-replicate {A = ℕ} 256 0xffff_ffff_ffff_ffff) };
   labels = λ i l. ap₂ classOf (getD-replicate 256 i 15 0 (omega arith)) (getD-replicate 256 i 0xffff_ffff_ffff_ffff 0 (omega arith));
 }
 
@@ -50,12 +51,12 @@ module _ (t : List ℕ) (m n : ℕ) (before : Buffers) where
   says-table bad = bad-table (record { bad = bad; untouched = refl })
 
   pub says-levels : TableAccepted t m n → length (before .levels) < n → SolveSays t m n before (refused 11 0) before
-  says-levels ok s = no-room (record { accepted = ok; short = λ r. absurd (omega (arith, r .levels)); untouched = refl })
+  says-levels ok s = no-room (record { accepted = ok; short = λ r. absurd (omega (arith, r .forLevels)); untouched = refl })
 
   pub says-marks : TableAccepted t m n → length (before .marks) < n → SolveSays t m n before (refused 11 0) before
-  says-marks ok s = no-room (record { accepted = ok; short = λ r. absurd (omega (arith, r .marks)); untouched = refl })
+  says-marks ok s = no-room (record { accepted = ok; short = λ r. absurd (omega (arith, r .forMarks)); untouched = refl })
 
-  pub says-without : TableAccepted t m n → Room n before → (p : ℕ) (start mid : Buffers) (o : Outcome) → o ≡ Without p → Highest n start → LabelSays t m n start mid o → SolveSays t m n before (refused 9 p) before
+  pub says-without : TableAccepted t m n → Room n (before .levels) (before .marks) → (p : ℕ) (start mid : Buffers) (o : Outcome) → o ≡ Without p → Highest n start → LabelSays t m n start mid o → SolveSays t m n before (refused 9 p) before
   says-without ok room p start mid o e x r = no-labelling (record {
     accepted = ok;
     room = room;
@@ -63,7 +64,7 @@ module _ (t : List ℕ) (m n : ℕ) (before : Buffers) where
     untouched = refl;
   })
 
-  pub says-labelled : TableAccepted t m n → Room n before → (start mid after : Buffers) (o : Outcome) → o ≡ Done → Highest n start → LabelSays t m n start mid o → Copied n (mid .levels) (before .levels) (after .levels) → Copied n (mid .marks) (before .marks) (after .marks) → ((i : ℕ) → getD (after .marks) i 0 < 2 ^ 64) → SolveSays t m n before (labelled n) after
+  pub says-labelled : TableAccepted t m n → Room n (before .levels) (before .marks) → (start mid after : Buffers) (o : Outcome) → o ≡ Done → Highest n start → LabelSays t m n start mid o → Copied n (mid .levels) (before .levels) (after .levels) → Copied n (mid .marks) (before .marks) (after .marks) → ((i : ℕ) → getD (after .marks) i 0 < 2 ^ 64) → SolveSays t m n before (labelled n) after
   unfolding part topOf
   says-labelled ok room start mid after o e x told levels marks words = writes-labels (record {
     accepted = ok;
@@ -71,8 +72,8 @@ module _ (t : List ℕ) (m n : ℕ) (before : Buffers) where
     count = refl;
     wanted = wanted-same classes (bookOf t m n) (table-inside ok) written
         (parts-wanted-below classParts classLaws (bookOf t m n) (table-inside ok) (labelsOf start) (highest-tops x) (labelsOf mid) is (everywhere .wanted));
-    levels = record { sized = levels .sized; rest = levels .rest };
-    marks = record { sized = marks .sized; rest = marks .rest };
+    levels = levels .kept;
+    marks = marks .kept;
   })
     where
       everywhere : WantedEverywhere t m n start mid

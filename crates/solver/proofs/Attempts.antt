@@ -2,7 +2,7 @@
 -- each in which they fail.
 -- Assumes nothing.
 use mathlib.Core.Path.{_≡_, refl, sym, _∙_, ap, subst}
-use mathlib.Core.Bool.{Bool, true, false}
+use mathlib.Core.Bool.{Bool, true, false, true≢false, false≢true}
 use mathlib.Core.List.{List}
 use Prim.Native.Nat.{ℕ, zero, suc, _+_, _≤_, _<_, min, max}
 use native.Mathlib.Decide.{ℕ-discrete}
@@ -29,7 +29,6 @@ use Rattle.accepts.proofs.Inside.{table-inside}
 use Rattle.solver.specs.Solving.{Buffers, held}
 use Rattle.solver.specs.Steps.{bookIn, valuesIn, labelsAt, Settles, Unheld}
 use Rattle.solver.specs.Lowers.{Copied, Chosen, Ready, LowersMarks, MarksStay, LowersLevel, TriesLevel, Lowers}
-use Rattle.solver.proofs.OneItem.{false-true}
 use Rattle.solver.proofs.Sweep.{SameSize, same-size, size-trans, room-kept}
 
 pub ready-inside : {t : List ℕ} {m n : ℕ} {b : Buffers} → Ready t m n b → (p : ℕ) → Inside (bookIn p t m n)
@@ -49,7 +48,7 @@ module _ {t : List ℕ} {m n i : ℕ} (l k : List ℕ) (ready : Ready t m n (hel
   cleared : (p : ℕ) → Placed n (labelsAt (suc p) (held l k)) i 0 (labelsAt (suc p) (held l (set k i 0)))
   unfolding part
   cleared p = record {
-    here = ap (bit p) (getD-set-same k i 0 0 (omega (arith, ready .room .marks))) ∙ bit-of-zero p;
+    here = ap (bit p) (getD-set-same k i 0 0 (omega (arith, ready .room .forMarks))) ∙ bit-of-zero p;
     other = λ j s ne. ap (bit p) (getD-set-other k i j 0 0 ne);
   }
 
@@ -77,7 +76,7 @@ module _ {t : List ℕ} {m n i : ℕ} (l k : List ℕ) (ready : Ready t m n (hel
   levelled : (v : ℕ) → Placed n (labelsAt 0 (held l k)) i v (labelsAt 0 (held (set l i v) k))
   unfolding part
   levelled v = record {
-    here = getD-set-same l i v 0 (omega (arith, ready .room .levels));
+    here = getD-set-same l i v 0 (omega (arith, ready .room .forLevels));
     other = λ j s ne. getD-set-other l i j v 0 ne;
   }
 
@@ -90,15 +89,15 @@ module _ {t : List ℕ} {m n i : ℕ} (l k : List ℕ) (ready : Ready t m n (hel
   level-left v z oldk l₁ k₁ k₂ w saved settled unheld back none-short = record {
     marks = marks-back z oldk k₁ k₂ l₁ saved back;
     lowered = λ e small less u x. lowered-step 15 (bookIn 0 t m n) (ready-inside ready 0) u x item (levelled v) small (settled .greatest 0 (omega arith)) (unheld .held n 0 (omega arith) none-short) less;
-    stays = λ e. false-true (sym e);
-    failed = λ e. false-true (sym e);
+    stays = λ e. absurd (true≢false e);
+    failed = λ e. absurd (true≢false e);
   }
 
   pub level-failed : (v : ℕ) (z₁ z₂ oldl oldk l₁ k₁ l₂ k₂ : List ℕ) (w : Class) → Copied n l z₁ oldl → Copied n k z₂ oldk → Settles t m n (held (set l i v) k) (held l₁ k₁) → Unheld t m (held l₁ k₁) w → Copied n oldk k₁ k₂ → (w .level ≡ 0 → ⊥) → Copied n oldl l₁ l₂ → TriesLevel t m n i v (held l k) (held l₂ k₂) false
   unfolding part topOf
   level-failed v z₁ z₂ oldl oldk l₁ k₁ l₂ k₂ w savedl savedk settled unheld backk short backl = record {
     marks = marks-back z₂ oldk k₁ k₂ l₂ savedk backk;
-    lowered = λ e. false-true e;
+    lowered = λ e. absurd (false≢true e);
     stays = λ e j s. backl .front j s ∙ savedl .front j s;
     failed = λ e. attempt-fails 15 (bookIn 0 t m n) (ready-inside ready 0) (λ j. 15) (levelled v) (settled .greatest 0 (omega arith)) (λ h. short (unheld .zero n 0 (omega arith) h));
   }

@@ -11,22 +11,32 @@ use lib.ListN.{length, getD, set, length-set}
 use lib.Seq.{getD-set-same, getD-set-other}
 use Rattle.classes.specs.Bits.{bit}
 use Rattle.classes.proofs.Bits.{bit-and, bit-or, bit-not}
+use Rattle.solver.specs.Solving.{RestKept}
 use Rattle.solver.specs.Lowers.{Copied, Chosen}
 
+-- One word more, whatever is written there.
+kept-none : {before : List ℕ} → RestKept 0 before before
+kept-none = record { sized = refl; rest = λ i s. refl }
+
+kept-more : {i : ℕ} {before cur : List ℕ} (v : ℕ) → RestKept i before cur → RestKept (i + 1) before (set cur i v)
+kept-more {i} {before} {cur} v w = record {
+  sized = length-set cur i v ∙ w .sized;
+  rest = λ j l. getD-set-other cur i j v 0 (λ e. absurd (omega arith)) ∙ w .rest j (omega arith);
+}
+
 pub copied-none : {from before : List ℕ} → Copied 0 from before before
-copied-none = record { sized = refl; front = λ i s. absurd (not-suc-le-zero s); rest = λ i s. refl }
+copied-none = record { kept = kept-none; front = λ i s. absurd (not-suc-le-zero s) }
 
 pub copied-more : {i : ℕ} {from before cur : List ℕ} → i < length cur → Copied i from before cur → Copied (i + 1) from before (set cur i (getD from i 0))
 copied-more {i} {from} {before} {cur} s w = record {
-  sized = length-set cur i _ ∙ w .sized;
+  kept = kept-more (getD from i 0) (w .kept);
   front = below-more _ _
       (λ j l. getD-set-other cur i j _ 0 (λ e. absurd (omega arith)) ∙ w .front j l)
       (getD-set-same cur i _ 0 s);
-  rest = λ j l. getD-set-other cur i j _ 0 (λ e. absurd (omega arith)) ∙ w .rest j (omega arith);
 }
 
 pub chosen-none : {w : ℕ} {old before : List ℕ} → Chosen 0 w old before before
-chosen-none = record { sized = refl; bits = λ i s. absurd (not-suc-le-zero s); rest = λ i s. refl }
+chosen-none = record { kept = kept-none; bits = λ i s. absurd (not-suc-le-zero s) }
 
 -- a bit of `(a & !w) | (b & w)`
 chosen-bit : (a b w k : ℕ) → k < 64 → w < 2 ^ 64 → bit k (bitOr (bitAnd a (2 ^ 64 - 1 - w)) (bitAnd b w)) ≡ max (min (bit k a) (1 - bit k w)) (min (bit k b) (bit k w))
@@ -36,11 +46,10 @@ chosen-bit a b w k s h =
 
 pub chosen-more : {i w : ℕ} {old before cur : List ℕ} → i < length cur → w < 2 ^ 64 → Chosen i w old before cur → Chosen (i + 1) w old before (set cur i (bitOr (bitAnd (getD cur i 0) (2 ^ 64 - 1 - w)) (bitAnd (getD old i 0) w)))
 chosen-more {i} {w} {old} {before} {cur} s h x = record {
-  sized = length-set cur i _ ∙ x .sized;
+  kept = kept-more (bitOr (bitAnd (getD cur i 0) (2 ^ 64 - 1 - w)) (bitAnd (getD old i 0) w)) (x .kept);
   bits = below-more _ _
       (λ j l k t. ap (bit k) (getD-set-other cur i j _ 0 (λ e. absurd (omega arith))) ∙ x .bits j l k t)
-      (λ k t. ap (bit k) (getD-set-same cur i _ 0 s) ∙ chosen-bit (getD cur i 0) (getD old i 0) w k t h ∙ ap (λ z. max (min (bit k z) (1 - bit k w)) (min (bit k (getD old i 0)) (bit k w))) (x .rest i (omega arith)));
-  rest = λ j l. getD-set-other cur i j _ 0 (λ e. absurd (omega arith)) ∙ x .rest j (omega arith);
+      (λ k t. ap (bit k) (getD-set-same cur i _ 0 s) ∙ chosen-bit (getD cur i 0) (getD old i 0) w k t h ∙ ap (λ z. max (min (bit k z) (1 - bit k w)) (min (bit k (getD old i 0)) (bit k w))) (x .kept .rest i (omega arith)));
 }
 
 pub copied-all : {i n : ℕ} {from before after : List ℕ} → Copied i from before after → i ≡ n → Copied n from before after

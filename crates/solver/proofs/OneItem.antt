@@ -1,7 +1,7 @@
 -- Lowering one item: what it does to the two lists, and that the sum of all levels and mark words falls with it.
 -- Assumes nothing.
 use mathlib.Core.Path.{_≡_, refl, sym, _∙_, ap, ap₂, subst}
-use mathlib.Core.Bool.{Bool, true, false}
+use mathlib.Core.Bool.{Bool, true, false, true≢false, false≢true}
 use mathlib.Core.List.{List, [], _∷_}
 use Prim.Native.Nat.{ℕ, zero, suc, _+_, _^_, _≤_, _<_}
 use native.Mathlib.Nat.{not-suc-le-zero}
@@ -15,10 +15,6 @@ use Rattle.labelling.specs.Greatest.{Placed}
 use Rattle.solver.specs.Solving.{Buffers, held, labelsOf}
 use Rattle.solver.specs.Steps.{sum, sumOf, Tracks, LowersItem}
 use Rattle.solver.proofs.Common.{common-covered, common-falls}
-
--- An impossible answer of a test.
-pub false-true : {A : Type 0} → _≡_ {A = Bool} false true → A
-false-true e = absurd (let z : _≡_ {A = ℕ} 0 1 = cc in omega arith)
 
 -- one element stored
 pub sum-set : (l : List ℕ) (i v : ℕ) → i < length l → sum (set l i v) + getD l i 0 ≡ sum l + v
@@ -35,7 +31,7 @@ label-placed l m i x s t n = record {
 }
 
 pub tracks-same : (b : Buffers) → Tracks b b false
-tracks-same b = record { same = λ e. refl; falls = λ e. false-true e }
+tracks-same b = record { same = λ e. refl; falls = λ e. absurd (false≢true e) }
 
 pub lower-kept : (l m : List ℕ) (i : ℕ) (c x : Class) (b : Bool) → x .marks < 2 ^ 64 → x ≡ classOf (getD l i 0) (getD m i 0) → Tells (Covers c x) b → b ≡ true → LowersItem i c (held l m) (held l m) false
 lower-kept l m i c x b h e t yes-covers = record {
@@ -54,8 +50,8 @@ pub lower-falls : (l m : List ℕ) (i : ℕ) (c x y : Class) (b : Bool) → i < 
 unfolding sumOf
 lower-falls l m i c x y b s t h g e told no-covers f = record {
   placed = λ n. subst (λ z. Placed n (labelsOf (held l m)) i z (labelsOf (held (set l i (y .level)) (set m i (y .marks))))) y-common (label-placed l m i y s t n);
-  covered = λ z. false-true (sym z);
-  tracks = record { same = λ z. false-true (sym z); falls = λ z. smaller };
+  covered = λ z. absurd (true≢false z);
+  tracks = record { same = λ z. absurd (true≢false z); falls = λ z. smaller };
 }
   where
     y-common : y ≡ commonOf (classOf (getD l i 0) (getD m i 0)) c

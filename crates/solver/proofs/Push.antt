@@ -2,6 +2,7 @@
 -- Assumes nothing.
 use mathlib.Core.Path.{_≡_, refl, sym, _∙_, ap, subst}
 use mathlib.Core.Bool.{Bool, false}
+use mathlib.Core.List.{List}
 use Prim.Native.Nat.{ℕ, _+_, _<_}
 use native.Mathlib.Omega.{arith}
 use Rattle.classes.specs.declared.Class.{Class}
@@ -11,7 +12,8 @@ use Rattle.rules.specs.Record.{leftItem, leftOf, meaningOf}
 use Rattle.rules.specs.declared.Rule.{Rule}
 use Rattle.rules.proofs.Meaning.{meaning-cap, meaning-floor, meaning-follow}
 use Rattle.accepts.specs.Accepted.{RuleAccepted}
-use Rattle.solver.specs.Solving.{Buffers, labelsOf, Room}
+use Rattle.labels.specs.Labels.{Room}
+use Rattle.solver.specs.Solving.{Buffers, labelsOf}
 use Rattle.solver.specs.Steps.{LowersItem, PushesRule}
 use Rattle.solver.proofs.OneItem.{tracks-same}
 
@@ -34,14 +36,14 @@ push-floor n x y same before e =
     (record { pushed = λ j s. refl; met = λ z. tt; tracks = tracks-same before })
 
 -- The item that a rule lowers has room.
-pub cap-room : {n : ℕ} {x y : Rule} {b : Buffers} → x ≡ y → Room n b × RuleAccepted n y → Room (leftItem x 0 + 1) b
-cap-room {n} {x} {y} {b} same (room, accepted) = record { levels = omega (arith, item, room .levels); marks = omega (arith, item, room .marks) }
+pub cap-room : {n : ℕ} {x y : Rule} {levels marks : List ℕ} → x ≡ y → Room n levels marks × RuleAccepted n y → Room (leftItem x 0 + 1) levels marks
+cap-room {n} {x} {y} same (room, accepted) = record { forLevels = omega (arith, item, room .forLevels); forMarks = omega (arith, item, room .forMarks) }
   where
     item : leftItem x 0 < n
     item = subst (λ z. leftItem z 0 < n) (sym same) (accepted .left .places 0 (omega arith) .item (omega (arith, accepted .left .some)))
 
-pub follow-room : {n : ℕ} {x y : Rule} {b : Buffers} → x ≡ y → Room n b × RuleAccepted n y → (x .kind ≡ 0 → ⊥) → (x .kind ≡ 1 → ⊥) → Room (x .right + 1) b
-follow-room {n} {x} {y} {b} same (room, accepted) p q = record { levels = omega (arith, item, room .levels); marks = omega (arith, item, room .marks) }
+pub follow-room : {n : ℕ} {x y : Rule} {levels marks : List ℕ} → x ≡ y → Room n levels marks × RuleAccepted n y → (x .kind ≡ 0 → ⊥) → (x .kind ≡ 1 → ⊥) → Room (x .right + 1) levels marks
+follow-room {n} {x} {y} same (room, accepted) p q = record { forLevels = omega (arith, item, room .forLevels); forMarks = omega (arith, item, room .forMarks) }
   where
     mine : RuleAccepted n x
     mine = subst (RuleAccepted n) (sym same) accepted

@@ -2,7 +2,7 @@
 -- part, and what is true at the end.
 -- Assumes nothing.
 use mathlib.Core.Path.{_≡_, refl, sym, _∙_, ap, subst}
-use mathlib.Core.Bool.{Bool, true, false, _||_}
+use mathlib.Core.Bool.{Bool, true, false, _||_, true≢false, false≢true}
 use mathlib.Core.List.{List}
 use Prim.Native.Nat.{ℕ, zero, suc, _+_, _-_, _≤_, _<_, min}
 use native.Mathlib.Nat.{not-suc-le-zero}
@@ -22,9 +22,10 @@ use Rattle.classes.specs.declared.Class.{Class}
 use Rattle.rules.specs.Table.{recordAt, bookOf}
 use Rattle.accepts.specs.Accepted.{RuleAccepted, TableAccepted}
 use Rattle.accepts.proofs.Inside.{table-inside}
-use Rattle.solver.specs.Solving.{Buffers, held, labelsOf, Room}
+use Rattle.labels.specs.Labels.{Room}
+use Rattle.solver.specs.Solving.{Buffers, held, labelsOf}
 use Rattle.solver.specs.Steps.{bookIn, valuesIn, labelsAt, ruleAt, sumOf, Tracks, PushesRule, Sweeps, Settles, turnOf}
-use Rattle.solver.proofs.OneItem.{false-true, tracks-same}
+use Rattle.solver.proofs.OneItem.{tracks-same}
 
 -- The turns of a sweep: each is a rule, and each rule has its turn.
 pub turn-back : (b : Bool) (m k : ℕ) → b ≡ true → m - 1 - k ≡ turnOf b m k
@@ -49,15 +50,15 @@ same-size b = record { levels = refl; marks = refl }
 pub size-trans : {a b c : Buffers} → SameSize a b → SameSize b c → SameSize a c
 size-trans x y = record { levels = y .levels ∙ x .levels; marks = y .marks ∙ x .marks }
 
-pub room-kept : {n : ℕ} {b c : Buffers} → Room n b → SameSize b c → Room n c
-room-kept r s = record { levels = omega (arith, r .levels, s .levels); marks = omega (arith, r .marks, s .marks) }
+pub room-kept : {n : ℕ} {b c : Buffers} → Room n (b .levels) (b .marks) → SameSize b c → Room n (c .levels) (c .marks)
+room-kept r s = record { forLevels = omega (arith, r .forLevels, s .levels); forMarks = omega (arith, r .forMarks, s .marks) }
 
 -- Changes one after the other.
 pub tracks-trans : {a b c : Buffers} (x y : Bool) → Tracks a b x → Tracks b c y → Tracks a c (x || y)
-tracks-trans false false p q = record { same = λ e. q .same refl ∙ p .same refl; falls = λ e. false-true e }
-tracks-trans {a} {b} {c} false true p q = record { same = λ e. false-true (sym e); falls = λ e. subst (λ z. sumOf c < sumOf z) (p .same refl) (q .falls refl) }
-tracks-trans {a} {b} {c} true false p q = record { same = λ e. false-true (sym e); falls = λ e. subst (λ z. sumOf z < sumOf a) (sym (q .same refl)) (p .falls refl) }
-tracks-trans true true p q = record { same = λ e. false-true (sym e); falls = λ e. omega (arith, p .falls refl, q .falls refl) }
+tracks-trans false false p q = record { same = λ e. q .same refl ∙ p .same refl; falls = λ e. absurd (false≢true e) }
+tracks-trans {a} {b} {c} false true p q = record { same = λ e. absurd (true≢false e); falls = λ e. subst (λ z. sumOf c < sumOf z) (p .same refl) (q .falls refl) }
+tracks-trans {a} {b} {c} true false p q = record { same = λ e. absurd (true≢false e); falls = λ e. subst (λ z. sumOf z < sumOf a) (sym (q .same refl)) (p .falls refl) }
+tracks-trans true true p q = record { same = λ e. absurd (true≢false e); falls = λ e. omega (arith, p .falls refl, q .falls refl) }
 
 or-left : (x y : Bool) → (x || y) ≡ false → x ≡ false
 or-left false y e = refl
@@ -65,7 +66,7 @@ or-left true y e = e
 
 or-right : (x y : Bool) → (x || y) ≡ false → y ≡ false
 or-right false y e = e
-or-right true y e = false-true (sym e)
+or-right true y e = absurd (true≢false e)
 
 -- A push of rule r, seen in part p.
 part-push : {t : List ℕ} {m n : ℕ} → TableAccepted t m n → (p : ℕ) → p < partCount → (before : Buffers) {cur next : Buffers} {b : Bool} → Between (valuesIn p) (bookIn p t m n) (labelsAt p before) (labelsAt p cur) → (r : ℕ) → r < m → PushesRule n (ruleAt t r) cur next b → Between (valuesIn p) (bookIn p t m n) (labelsAt p before) (labelsAt p next)
@@ -103,7 +104,7 @@ swept-more {t} {m} {n} {back} {before} {cur} {next} {changed} {fell} {k} {r} ok 
     move quiet j h = subst (λ b. MetDown classes (ruleAt t (turnOf back m j)) (labelsOf b)) (sym (x .tracks .same (or-right changed fell quiet))) h
 
 -- what the next push requires
-pub push-ready : {t : List ℕ} {m n k r : ℕ} (back : Bool) {before cur : Buffers} → Room n before × TableAccepted t m n → SameSize before cur → k < m → r ≡ turnOf back m k → Room n cur × RuleAccepted n (recordAt t r)
+pub push-ready : {t : List ℕ} {m n k r : ℕ} (back : Bool) {before cur : Buffers} → Room n (before .levels) (before .marks) × TableAccepted t m n → SameSize before cur → k < m → r ≡ turnOf back m k → Room n (cur .levels) (cur .marks) × RuleAccepted n (recordAt t r)
 push-ready {t} {m} {n} {k} {r} back (room, ok) size l e = (room-kept room size, ok .accepted .each r (subst (λ z. z < m) (sym e) (turn-below back m k l)) .accepted)
 
 pub swept-all : {t : List ℕ} {m n : ℕ} {back : Bool} {before cur : Buffers} {changed : Bool} {k : ℕ} → Swept t m n back before cur changed k → m ≤ k → Sweeps t m n before cur changed

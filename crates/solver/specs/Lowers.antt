@@ -4,30 +4,29 @@ use mathlib.Core.Path.{_≡_}
 use mathlib.Core.Bool.{Bool, true, false}
 use mathlib.Core.List.{List}
 use Prim.Native.Nat.{ℕ, suc, _-_, _≤_, _<_, min, max}
-use lib.ListN.{length, getD}
+use lib.ListN.{getD}
 use Rattle.classes.specs.Bits.{bit}
 use Rattle.classes.specs.Parts.{partCount}
 use Rattle.labelling.specs.Lowered.{Lowered, NoneLess}
 use Rattle.accepts.specs.Accepted.{TableAccepted}
-use Rattle.solver.specs.Solving.{Buffers, Room}
+use Rattle.labels.specs.Labels.{Room}
+use Rattle.solver.specs.Solving.{Buffers, RestKept}
 use Rattle.solver.specs.Steps.{bookIn, valuesIn, labelsAt}
 
 -- The first n words are those of another list; the rest is as it was.
 pub record Copied (n : ℕ) (from before after : List ℕ) : Type 0 where
-  pub sized : length after ≡ length before
+  pub kept : RestKept n before after
   pub front : (i : ℕ) → i < n → getD after i 0 ≡ getD from i 0
-  pub rest : (i : ℕ) → n ≤ i → getD after i 0 ≡ getD before i 0
 
--- Of the first n words, each bit is the old list's where w has it, and stays elsewhere.
+-- Of the first n words, each bit is the old list's where w has it, and stays elsewhere; the rest is as it was.
 pub record Chosen (n w : ℕ) (old before after : List ℕ) : Type 0 where
-  pub sized : length after ≡ length before
+  pub kept : RestKept n before after
   pub bits : (i : ℕ) → i < n → (k : ℕ) → k < 64 → bit k (getD after i 0) ≡ max (min (bit k (getD before i 0)) (1 - bit k w)) (min (bit k (getD old i 0)) (bit k w))
-  pub rest : (i : ℕ) → n ≤ i → getD after i 0 ≡ getD before i 0
 
 -- The table is accepted and the labels have room.
 pub record Ready (t : List ℕ) (m n : ℕ) (b : Buffers) : Type 0 where
   pub accepted : TableAccepted t m n
-  pub room : Room n b
+  pub room : Room n (b .levels) (b .marks)
 
 -- In the marks, labels lowered up to item i become labels lowered up to item k. The levels stay.
 pub record LowersMarks (t : List ℕ) (m n i k : ℕ) (before after : Buffers) : Type 0 where

@@ -11,6 +11,7 @@ use Rattle.labelling.specs.Classes.{classes, classParts}
 use Rattle.rules.specs.Record.{labelsIn}
 use Rattle.rules.specs.Table.{bookOf}
 use Rattle.accepts.specs.Accepted.{TableAccepted}
+use Rattle.labels.specs.Labels.{Room}
 use Rattle.solver.specs.declared.Solved.{Solved}
 use Rattle.solver.specs.declared.Solved.the-variants.{Labelled, BadTable, NoRoom, NoLabelling}
 
@@ -37,11 +38,6 @@ held levels marks = record { levels = levels; marks = marks }
 abbrev pub labelsOf : Buffers → ℕ → Class
 labelsOf b = labelsIn (b .levels) (b .marks)
 
--- Each buffer has room for n labels.
-pub record Room (n : ℕ) (b : Buffers) : Type 0 where
-  pub levels : n ≤ length (b .levels)
-  pub marks : n ≤ length (b .marks)
-
 -- A list of the same length, equal from n on: written from the front, with the rest left.
 pub record RestKept (n : ℕ) (before after : List ℕ) : Type 0 where
   pub sized : length after ≡ length before
@@ -50,7 +46,7 @@ pub record RestKept (n : ℕ) (before after : List ℕ) : Type 0 where
 -- A success answers the count of the items and writes the wanted labels.
 pub record WritesLabels (t : List ℕ) (m n k : ℕ) (before after : Buffers) : Type 0 where
   pub accepted : TableAccepted t m n
-  pub room : Room n before
+  pub room : Room n (before .levels) (before .marks)
   pub count : k ≡ n
   pub wanted : Wanted classes (bookOf t m n) (labelsOf after)
   pub levels : RestKept n (before .levels) (after .levels)
@@ -62,12 +58,12 @@ pub record RefusesTable (t : List ℕ) (m n : ℕ) (before after : Buffers) : Ty
 
 pub record RefusesRoom (t : List ℕ) (m n : ℕ) (before after : Buffers) : Type 0 where
   pub accepted : TableAccepted t m n
-  pub short : Room n before → ⊥
+  pub short : Room n (before .levels) (before .marks) → ⊥
   pub untouched : after ≡ before
 
 pub record RefusesBook (t : List ℕ) (m n p : ℕ) (before after : Buffers) : Type 0 where
   pub accepted : TableAccepted t m n
-  pub room : Room n before
+  pub room : Room n (before .levels) (before .marks)
   pub unlabelled : Refused classParts (bookOf t m n) p
   pub untouched : after ≡ before
 

@@ -6,7 +6,7 @@ ghost use Prim.Native.Nat.{ℕ, _+_, _≤_, _<_};
 ghost use mathlib.Core.Path.{_≡_};
 ghost use lib.ListN.{length};
 ghost use Rattle.accepts.specs.Accepted.{TableAccepted};
-ghost use Rattle.solver.specs.Solving.{held, Room};
+ghost use Rattle.solver.specs.Solving.{held};
 ghost use Rattle.solver.specs.Lowers.{Copied, Chosen, Ready, LowersMarks, TriesLevel, LowersLevel, Lowers};
 
 // The first n words of a slice, written over the first n of another.

@@ -9,12 +9,13 @@ ghost use mathlib.Core.Path.{_≡_};
 ghost use Prim.Native.Nat.{_+_, _<_};
 ghost use Rattle.rules.specs.Table.{recordAt};
 ghost use Rattle.accepts.specs.Accepted.{RuleAccepted, TableAccepted};
-ghost use Rattle.solver.specs.Solving.{held, Room};
+ghost use Rattle.labels.specs.Labels.{Room};
+ghost use Rattle.solver.specs.Solving.{held};
 ghost use Rattle.solver.specs.Steps.{LowersItem, PushesRule, Sweeps, Settles, ruleAt, turnOf};
 
 // Lowers item i to the common part of its label and a bound. Answers whether that changed anything.
 fn lower(levels: &mut [u64], marks: &mut [u64], i: usize, bound: Class) -> bool
-    requires { ⌜ Room (i + 1) (held (now levels) (now marks)) ⌝ }
+    requires { ⌜ Room (i + 1) (now levels) (now marks) ⌝ }
     ensures { λ r. ⌜ LowersItem i bound (held (now (levels .entry)) (now (marks .entry))) (held (now (levels .exit)) (now (marks .exit))) r ⌝ }
 {
     let old = Class::new(levels[i], marks[i]);
@@ -29,7 +30,7 @@ fn lower(levels: &mut [u64], marks: &mut [u64], i: usize, bound: Class) -> bool
 
 // Lowers the item that rule r bounds from above to what the rule allows. Answers whether that changed anything.
 fn push(rules: &[u64], n: usize, r: usize, levels: &mut [u64], marks: &mut [u64]) -> bool
-    requires { ⌜ Room n (held (now levels) (now marks)) × RuleAccepted n (recordAt (now rules) r) ⌝ }
+    requires { ⌜ Room n (now levels) (now marks) × RuleAccepted n (recordAt (now rules) r) ⌝ }
     ensures { λ x. ⌜ PushesRule n (ruleAt (now (rules .entry)) r) (held (now (levels .entry)) (now (marks .entry))) (held (now (levels .exit)) (now (marks .exit))) x ⌝ }
 {
     let rule = rule_at(rules, r);
@@ -62,7 +63,7 @@ fn sweep(
     levels: &mut [u64],
     marks: &mut [u64],
 ) -> bool
-    requires { ⌜ Room n (held (now levels) (now marks)) × TableAccepted (now rules) m n ⌝ }
+    requires { ⌜ Room n (now levels) (now marks) × TableAccepted (now rules) m n ⌝ }
     ensures { λ r. ⌜ Sweeps (now (rules .entry)) m n (held (now (levels .entry)) (now (marks .entry))) (held (now (levels .exit)) (now (marks .exit))) r ⌝ }
 {
     let mut changed = false;
@@ -79,7 +80,7 @@ fn sweep(
 // Lowers labels until every cap and every follow is met. Sweeps go forward and back in turn, so that a chain of follows in
 // either order is one sweep.
 pub(crate) fn settle(rules: &[u64], m: usize, n: usize, levels: &mut [u64], marks: &mut [u64])
-    requires { ⌜ Room n (held (now levels) (now marks)) × TableAccepted (now rules) m n ⌝ }
+    requires { ⌜ Room n (now levels) (now marks) × TableAccepted (now rules) m n ⌝ }
     ensures { λ _. ⌜ Settles (now (rules .entry)) m n (held (now (levels .entry)) (now (marks .entry))) (held (now (levels .exit)) (now (marks .exit))) ⌝ }
 {
     let mut back = false;

@@ -13,7 +13,7 @@ use lib.Arith.{digits-lt, digits-div, digits-mod}
 use lib.Dec.{leb, ltb}
 use lib.ListN.{length, length-append}
 use borrow.Author.Tests.{le-leb, lt-leb, lt-ltb, le-ltb, leb-true}
-use Rattle.items.proofs.Bools.{and-left, and-right}
+use Rattle.classes.proofs.Bools.{and-left, and-right}
 use Rattle.scans.specs.Bytes.{byteAt, decimalByte, hexByte, runLen}
 use Rattle.scans.proofs.Runs.{run-append, all-head, all-tail}
 use Rattle.tokens.specs.Numbers.{digitValue, digit, valueAfter, valueOf, digitsOf, decimalLen}
@@ -255,16 +255,23 @@ decimal-has n h = cases (decLt n 10) (decLt n 100) (decLt n 1000) (decLt n 10000
     cases (no a) (no b) (no c) (yes d) = has 4 (omega arith)
     cases (no a) (no b) (no c) (no d) = has 5 (omega arith)
 
-pub decimal-most : (n : ℕ) → decimalLen n ≤ 5
+-- Any number has 1 to 5 of them: of one over 99,999 the last five are put.
+decimal-cases : (P : ℕ → Type 0) → P 1 → P 2 → P 3 → P 4 → P 5 → (n : ℕ) → P (decimalLen n)
 unfolding decimalLen
-decimal-most n = cases (ltb n 10) (ltb n 100) (ltb n 1000) (ltb n 10000)
+decimal-cases P p q r s t n = cases (ltb n 10) (ltb n 100) (ltb n 1000) (ltb n 10000)
   where
-    cases : (a b c d : Bool) → cond a 1 (cond b 2 (cond c 3 (cond d 4 5))) ≤ 5
-    cases true b c d = omega arith
-    cases false true c d = omega arith
-    cases false false true d = omega arith
-    cases false false false true = omega arith
-    cases false false false false = omega arith
+    cases : (a b c d : Bool) → P (cond a 1 (cond b 2 (cond c 3 (cond d 4 5))))
+    cases true b c d = p
+    cases false true c d = q
+    cases false false true d = r
+    cases false false false true = s
+    cases false false false false = t
+
+pub decimal-least : (n : ℕ) → 1 ≤ decimalLen n
+decimal-least = decimal-cases (λ k. 1 ≤ k) (omega arith) (omega arith) (omega arith) (omega arith) (omega arith)
+
+pub decimal-most : (n : ℕ) → decimalLen n ≤ 5
+decimal-most = decimal-cases (λ k. k ≤ 5) (omega arith) (omega arith) (omega arith) (omega arith) (omega arith)
 
 pub decimal-short : (n : ℕ) → n < 100 → decimalLen n ≤ 2
 decimal-short n h = cases (decLt n 10)

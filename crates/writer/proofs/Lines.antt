@@ -16,11 +16,10 @@ use Rattle.items.proofs.Table.{nameLen-inside, nameOf-length, named-len}
 use Rattle.rules.specs.Record.{byKind, leftItem}
 use Rattle.rules.specs.Table.{recordAt}
 use Rattle.rules.specs.declared.Rule.{Rule}
-use Rattle.keys.specs.Keys.{keyText}
 use Rattle.keys.specs.declared.Key.{Key}
 use Rattle.tokens.specs.Tokens.{countText, classText}
 use Rattle.tokens.specs.Numbers.{decimalLen}
-use Rattle.tokens.proofs.Values.{digits-length}
+use Rattle.tokens.proofs.Values.{digits-length, decimal-least}
 use Rattle.tokens.proofs.Tokens.{class-length}
 use Rattle.writer.specs.Texts.{pieces, formLine, endLine, itemLine, leftPiece, rightText, ruleLine, bookText, labelLine, labelsText}
 use Rattle.writer.specs.Pushing.{Grown, Named}
@@ -46,25 +45,6 @@ module _ {t : List ℕ} {i len : ℕ} (name : NameAt t i) (e : len ≡ nameLen t
   part-grown {d} {at} {d′} {r} g = subst (λ (l : List ℕ). Grown d at l d′ r) part-name g
 
 -- No piece is empty.
-pub key-some : (k : Key) → 1 ≤ length (keyText k)
-key-some Key.Form = omega arith
-key-some Key.Item = omega arith
-key-some Key.Cap = omega arith
-key-some Key.Floor = omega arith
-key-some Key.Follow = omega arith
-key-some Key.End = omega arith
-
-decimal-least : (n : ℕ) → 1 ≤ decimalLen n
-unfolding decimalLen
-decimal-least n = cases (ltb n 10) (ltb n 100) (ltb n 1000) (ltb n 10000)
-  where
-    cases : (a b c d : Bool) → 1 ≤ cond a 1 (cond b 2 (cond c 3 (cond d 4 5)))
-    cases true b c d = omega arith
-    cases false true c d = omega arith
-    cases false false true d = omega arith
-    cases false false false true = omega arith
-    cases false false false false = omega arith
-
 pub count-some : (n : ℕ) → 1 ≤ length (countText n)
 count-some n = omega (arith, digits-length 10 (decimalLen n) n, decimal-least n)
 

@@ -1,14 +1,16 @@
 -- `left_ok` meets its contract. Assumes nothing.
-use Prim.Native.Nat.{_≤_, _-_}
+use Prim.Native.Nat.{ℕ, _≤_, _<_, _-_}
 use native.Mathlib.Omega.{arith}
+use borrow.Author.Count.{below-none, below-more}
 use Rattle.classes.proofs.Tells.{told-no, told-yes}
-use Rattle.accepts.proofs.Accepts.{PlacesBefore, places-none, places-more, left-none, left-many, left-bad, left-good}
+use Rattle.accepts.specs.Accepted.{PlaceAccepted}
+use Rattle.accepts.proofs.Accepts.{left-none, left-many, left-bad, left-good}
 use borrow.Author.Needs.{needs}
 use Rattle.accepts.proofs.left_ok.Statement.{statement}
 use Rattle.accepts.proofs.left_ok.Tie as tie
 
 abbrev Inv-loop : tie.InvT-loop
-Inv-loop rule n k₀ k = PlacesBefore n rule k × (k ≤ 8)
+Inv-loop rule n k₀ k = ((j : ℕ) → j < k → PlaceAccepted n rule j) × (k ≤ 8)
 
 abbrev μ-loop : tie.MeasureT-loop
 μ-loop rule n k₀ k = 8 - k
@@ -20,7 +22,7 @@ returns-2 : tie.Need-returns-2 Inv-loop μ-loop
 returns-2 c = search (left-many, needs)
 
 loop-holds : tie.Need-loop-holds Inv-loop μ-loop
-loop-holds c = (places-none, omega arith)
+loop-holds c = (below-none _, omega arith)
 
 place-ok-requires : tie.Need-place-ok-requires Inv-loop μ-loop
 place-ok-requires c κs = search needs
@@ -35,7 +37,7 @@ loop-less : tie.Need-loop-less Inv-loop μ-loop
 loop-less c = search needs
 
 loop-again : tie.Need-loop-again Inv-loop μ-loop
-loop-again c = (places-more (c .before .before .before .loop .inv .0) (told-yes (c .before .place-ok .ensures) (c .if3 .left)), omega arith)
+loop-again c = (below-more _ _ (c .before .before .before .loop .inv .0) (told-yes (c .before .place-ok .ensures) (c .if3 .left)), omega arith)
 
 returns-4 : tie.Need-returns-4 Inv-loop μ-loop
 returns-4 c = search (left-good, needs)

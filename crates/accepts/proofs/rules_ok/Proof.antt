@@ -1,15 +1,17 @@
 -- `rules_ok` meets its contract. Assumes nothing.
-use Prim.Native.Nat.{_≤_, _-_}
+use Prim.Native.Nat.{ℕ, _≤_, _<_, _-_}
 use native.Mathlib.Omega.{arith}
+use borrow.Author.Count.{below-none, below-more}
 use Rattle.classes.proofs.Tells.{told-no, told-yes}
 use Rattle.rules.specs.Table.{recordAt}
-use Rattle.accepts.proofs.Accepts.{StandingBefore, standing-none, standing-more, table-items, table-rules, table-short, table-bad, table-good}
+use Rattle.accepts.specs.Accepted.{Standing}
+use Rattle.accepts.proofs.Accepts.{table-items, table-rules, table-short, table-bad, table-good}
 use borrow.Author.Needs.{needs}
 use Rattle.accepts.proofs.rules_ok.Statement.{statement}
 use Rattle.accepts.proofs.rules_ok.Tie as tie
 
 abbrev Inv-loop : tie.InvT-loop
-Inv-loop rules m n r₀ r = StandingBefore (recordAt rules) m n r × (r ≤ m)
+Inv-loop rules m n r₀ r = ((q : ℕ) → q < r → Standing (recordAt rules) m n q) × (r ≤ m)
 
 abbrev μ-loop : tie.MeasureT-loop
 μ-loop rules m n r₀ r = m - r
@@ -27,7 +29,7 @@ returns-3 : tie.Need-returns-3 Inv-loop μ-loop
 returns-3 c = search (table-short, needs)
 
 loop-holds : tie.Need-loop-holds Inv-loop μ-loop
-loop-holds c = (standing-none, omega arith)
+loop-holds c = (below-none _, omega arith)
 
 standing-requires : tie.Need-standing-requires Inv-loop μ-loop
 standing-requires c κs = search needs
@@ -42,7 +44,7 @@ loop-less : tie.Need-loop-less Inv-loop μ-loop
 loop-less c = search needs
 
 loop-again : tie.Need-loop-again Inv-loop μ-loop
-loop-again c = (standing-more (c .before .before .before .loop .inv .0) (told-yes (c .before .standing .ensures) (c .if4 .left)), omega arith)
+loop-again c = (below-more _ _ (c .before .before .before .loop .inv .0) (told-yes (c .before .standing .ensures) (c .if4 .left)), omega arith)
 
 returns-5 : tie.Need-returns-5 Inv-loop μ-loop
 returns-5 c = search (table-good, needs)

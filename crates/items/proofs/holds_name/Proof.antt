@@ -10,10 +10,10 @@ use borrow.Author.Needs.{needs}
 use borrow.Author.Tests.{not-true, not-false}
 use denote.Ref.{now}
 use Rattle.classes.specs.Tells.{Tells}
+use Rattle.classes.proofs.Bools.{true-not-false}
 use Rattle.classes.proofs.Tells.{tells-no}
 use Rattle.items.specs.Names.{nameRoom, isName}
 use Rattle.items.specs.Table.{nameLen, nameOf, ZerosFrom, NameAt}
-use Rattle.items.proofs.Bools.{true-not-false}
 use Rattle.items.proofs.Names.{name-spelled, spelled-name}
 use Rattle.items.proofs.Table.{nameLen-inside, named-len, named-spelled, spelled-named, named-rest}
 use Rattle.items.proofs.holds_name.Statement.{statement}

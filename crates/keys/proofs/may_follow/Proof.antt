@@ -1,14 +1,16 @@
 -- `may_follow` meets its contract: the table's rule is a test at each of its 36 cells, which antt computes. Assumes nothing.
 use mathlib.Core.Path.{_≡_, refl}
-use mathlib.Core.Bool.{Bool, true, false, Bool·beq}
+use mathlib.Core.Bool.{Bool, true, Bool·beq}
 use mathlib.Core.List.{List, [], _∷_}
-use Prim.Native.Nat.{ℕ, _+_, _*_, _/_, _%_, _≤_}
+use Prim.Native.Nat.{ℕ, _+_, _*_, _/_, _%_, _≤_, _<_}
 use native.Mathlib.Omega.{arith}
-use lib.Dec.{T, eqb}
+use lib.Dec.{eqb}
 use lib.ListN.{getD}
 use borrow.Author.Needs.{needs}
+use Rattle.classes.specs.Every.{everyBelow}
+use Rattle.classes.proofs.Bools.{beq-same}
+use Rattle.classes.proofs.Every.{every-at}
 use Rattle.keys.specs.Keys.{nextAllowed}
-use Rattle.keys.proofs.Table.{at}
 use Rattle.keys.proofs.KeyTexts.{next-past-rows, next-past-columns}
 use Rattle.keys.proofs.may_follow.Statement.{statement}
 use Rattle.keys.proofs.may_follow.Tie as tie
@@ -20,22 +22,20 @@ cells =
     ∷ []
 
 -- The cell's rule, and the test of it.
-right : ℕ → ℕ → Bool
-right i x = Bool·beq (eqb x 1) (nextAllowed (i / 6) (i % 6))
+right : ℕ → Bool
+right i = Bool·beq (eqb (getD cells i 0) 1) (nextAllowed (i / 6) (i % 6))
 
-beq-eq : (a b : Bool) → T (Bool·beq a b) → a ≡ b
-beq-eq true true t = refl
-beq-eq true false t = absurd t
-beq-eq false true t = absurd t
-beq-eq false false t = refl
+cells-right : everyBelow 36 right ≡ true
+unfolding everyBelow cells right nextAllowed
+cells-right = refl
 
 cell : (after key : ℕ) → after ≤ 5 → key ≤ 5 → eqb (getD cells (after * 6 + key) 0) 1 ≡ nextAllowed after key
-unfolding cells right nextAllowed
+unfolding right
 cell after key h g =
     let row : (after * 6 + key) / 6 ≡ after = omega arith in
     let column : (after * 6 + key) % 6 ≡ key = omega arith in
-    beq-eq (eqb (getD cells (after * 6 + key) 0) 1) (nextAllowed after key)
-    (rw (row, column) at (at right cells tt (after * 6 + key) (omega arith)))
+    beq-same (eqb (getD cells (after * 6 + key) 0) 1) (nextAllowed after key)
+    (rw (row, column) at (every-at 36 right cells-right (after * 6 + key) (omega arith)))
 
 returns : tie.Need-returns
 returns c = search (next-past-rows, needs)

@@ -46,7 +46,7 @@ copy-requires-2 : tie.Need-copy-requires-2
 copy-requires-2 c κs = (omega (arith, c .before .before .before .before .before .before .before .before .before .before .before .label .kept .1 .1 .1 .1 .0, (told-yes (c .before .before .before .before .before .before .before .before .before .before .before .before .before .before .before .before .before .rules-ok .ensures) (c .before .before .before .before .before .before .before .before .before .before .before .before .before .before .before .before .if1 .left)) .accepted .items), omega (arith, c .before .before .before .before .before .before .before .before .before .before .before .before .before .before .if3 .left))
 
 returns-4 : tie.Need-returns-4
-returns-4 c = says-without _ _ _ _ (told-yes (c .before .before .before .before .before .before .before .before .before .before .before .rules-ok .ensures) (c .before .before .before .before .before .before .before .before .before .before .if1 .left)) (record { levels = c .before .before .before .before .before .before .before .before .before .if2 .left; marks = c .before .before .before .before .before .before .before .before .if3 .left }) _ _ _ _ (c .before .outcome .given .1) (highest-start _ ((told-yes (c .before .before .before .before .before .before .before .before .before .before .before .rules-ok .ensures) (c .before .before .before .before .before .before .before .before .before .before .if1 .left)) .accepted .items)) (c .before .before .before .before .before .label .ensures)
+returns-4 c = says-without _ _ _ _ (told-yes (c .before .before .before .before .before .before .before .before .before .before .before .rules-ok .ensures) (c .before .before .before .before .before .before .before .before .before .before .if1 .left)) (record { forLevels = c .before .before .before .before .before .before .before .before .before .if2 .left; forMarks = c .before .before .before .before .before .before .before .before .if3 .left }) _ _ _ _ (c .before .outcome .given .1) (highest-start _ ((told-yes (c .before .before .before .before .before .before .before .before .before .before .before .rules-ok .ensures) (c .before .before .before .before .before .before .before .before .before .before .if1 .left)) .accepted .items)) (c .before .before .before .before .before .label .ensures)
 
 same-length : tie.Need-same-length
 same-length c = search needs
@@ -55,7 +55,7 @@ same-length-2 : tie.Need-same-length-2
 same-length-2 c = search needs
 
 returns-5 : tie.Need-returns-5
-returns-5 c = says-labelled _ _ _ _ (told-yes (c .before .before .before .before .before .before .before .before .before .before .before .before .before .before .before .before .before .before .before .before .rules-ok .ensures) (c .before .before .before .before .before .before .before .before .before .before .before .before .before .before .before .before .before .before .before .if1 .left)) (record { levels = c .before .before .before .before .before .before .before .before .before .before .before .before .before .before .before .before .before .before .if2 .left; marks = c .before .before .before .before .before .before .before .before .before .before .before .before .before .before .before .before .before .if3 .left }) _ _ _ _ (c .before .before .before .before .before .before .before .before .before .before .enum-told .given .1) (highest-start _ ((told-yes (c .before .before .before .before .before .before .before .before .before .before .before .before .before .before .before .before .before .before .before .before .rules-ok .ensures) (c .before .before .before .before .before .before .before .before .before .before .before .before .before .before .before .before .before .before .before .if1 .left)) .accepted .items)) (c .before .before .before .before .before .before .before .before .before .before .before .before .before .before .label .ensures) (c .before .before .before .before .before .before .before .copy .ensures) (c .before .before .copy2 .ensures) (λ i. c .slice-known4 .given i .fits)
+returns-5 c = says-labelled _ _ _ _ (told-yes (c .before .before .before .before .before .before .before .before .before .before .before .before .before .before .before .before .before .before .before .before .rules-ok .ensures) (c .before .before .before .before .before .before .before .before .before .before .before .before .before .before .before .before .before .before .before .if1 .left)) (record { forLevels = c .before .before .before .before .before .before .before .before .before .before .before .before .before .before .before .before .before .before .if2 .left; forMarks = c .before .before .before .before .before .before .before .before .before .before .before .before .before .before .before .before .before .if3 .left }) _ _ _ _ (c .before .before .before .before .before .before .before .before .before .before .enum-told .given .1) (highest-start _ ((told-yes (c .before .before .before .before .before .before .before .before .before .before .before .before .before .before .before .before .before .before .before .before .rules-ok .ensures) (c .before .before .before .before .before .before .before .before .before .before .before .before .before .before .before .before .before .before .before .if1 .left)) .accepted .items)) (c .before .before .before .before .before .before .before .before .before .before .before .before .before .before .label .ensures) (c .before .before .before .before .before .before .before .copy .ensures) (c .before .before .copy2 .ensures) (λ i. c .slice-known4 .given i .fits)
 
 pub solve-spec : {M : Type 1} → statement M
 solve-spec =

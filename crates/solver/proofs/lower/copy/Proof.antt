@@ -26,7 +26,7 @@ mul-to-2 : tie.Need-mul-to-2 Inv-loop μ-loop
 mul-to-2 c = search needs
 
 slice-write-to : tie.Need-slice-write-to Inv-loop μ-loop
-slice-write-to c = omega (arith, c .before .before .loop .inv .0 .sized)
+slice-write-to c = omega (arith, c .before .before .loop .inv .0 .kept .sized)
 
 add-i : tie.Need-add-i Inv-loop μ-loop
 add-i c = search needs
@@ -35,10 +35,10 @@ loop-less : tie.Need-loop-less Inv-loop μ-loop
 loop-less c = search needs
 
 loop-again : tie.Need-loop-again Inv-loop μ-loop
-loop-again c = (copied-more (omega (arith, c .before .before .loop .inv .0 .sized)) (c .before .before .loop .inv .0), omega arith)
+loop-again c = (copied-more (omega (arith, c .before .before .loop .inv .0 .kept .sized)) (c .before .before .loop .inv .0), omega arith)
 
 same-length : tie.Need-same-length Inv-loop μ-loop
-same-length c = c .before .loop .inv .0 .sized
+same-length c = c .before .loop .inv .0 .kept .sized
 
 returns : tie.Need-returns Inv-loop μ-loop
 returns c = copied-all (c .before .loop .inv .0) (omega arith)

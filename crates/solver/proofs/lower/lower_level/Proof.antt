@@ -22,7 +22,7 @@ mul-if1 : tie.Need-mul-if1 Inv-loop μ-loop
 mul-if1 c = omega (arith, c .before .before .before .before .pre .0 .accepted .accepted .items, c .before .before .before .before .pre .1)
 
 slice-read-if1 : tie.Need-slice-read-if1 Inv-loop μ-loop
-slice-read-if1 c = omega (arith, c .before .loop .inv .sized .levels, c .before .before .before .before .before .pre .0 .room .levels)
+slice-read-if1 c = omega (arith, c .before .loop .inv .sized .levels, c .before .before .before .before .before .pre .0 .room .forLevels)
 
 try-level-requires : tie.Need-try-level-requires Inv-loop μ-loop
 try-level-requires c κs = (ready-kept (c .before .before .before .before .before .before .before .before .pre .0) (c .before .before .before .before .loop .inv .sized), c .before .before .before .before .before .before .before .before .pre .1)

@@ -41,10 +41,10 @@ loop-less : tie.Need-loop-less Inv-loop μ-loop
 loop-less c = search needs
 
 loop-again : tie.Need-loop-again Inv-loop μ-loop
-loop-again c = (chosen-more (omega (arith, c .before .before .before .loop .inv .0 .sized)) (search needs) (c .before .before .before .loop .inv .0), omega arith)
+loop-again c = (chosen-more (omega (arith, c .before .before .before .loop .inv .0 .kept .sized)) (search needs) (c .before .before .before .loop .inv .0), omega arith)
 
 same-length : tie.Need-same-length Inv-loop μ-loop
-same-length c = c .before .loop .inv .0 .sized
+same-length c = c .before .loop .inv .0 .kept .sized
 
 returns : tie.Need-returns Inv-loop μ-loop
 returns c = chosen-all (c .before .loop .inv .0) (omega arith)

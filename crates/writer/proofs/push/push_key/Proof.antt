@@ -1,7 +1,7 @@
 -- `push_key` meets its contract. Assumes nothing.
 use borrow.Author.Needs.{needs}
+use Rattle.keys.proofs.KeyTexts.{key-some}
 use Rattle.writer.proofs.Growing.{grown-put}
-use Rattle.writer.proofs.Lines.{key-some}
 use Rattle.writer.proofs.push.push_key.Statement.{statement}
 use Rattle.writer.proofs.push.push_key.Tie as tie
 
