@@ -2,8 +2,8 @@
 use Prim.Native.Nat.{_-_}
 use lib.ListN.{length}
 use borrow.Author.Needs.{needs}
-use Rattle.texts.proofs.show.words_kept.Statement.{statement}
-use Rattle.texts.proofs.show.words_kept.Tie as tie
+use Rattle.readings.proofs.show.words_kept.Statement.{statement}
+use Rattle.readings.proofs.show.words_kept.Tie as tie
 
 abbrev Inv-loop : tie.InvT-loop
 Inv-loop words from i₀ i = Unit {0}

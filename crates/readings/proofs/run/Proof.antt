@@ -1,18 +1,15 @@
--- `each_line` meets its contract. Assumes nothing.
+-- `run` meets its contract. Assumes nothing.
 use Prim.Native.Nat.{_-_}
 use lib.ListN.{length}
 use borrow.Author.Needs.{needs}
-use Rattle.texts.proofs.each_line.Statement.{statement}
-use Rattle.texts.proofs.each_line.Tie as tie
-use Rattle.texts.proofs.case.Reads as case-reads
-use Rattle.texts.proofs.places.find.Reads as find-reads
-use Rattle.texts.proofs.places.part.Reads as part-reads
+use Rattle.readings.proofs.run.Statement.{statement}
+use Rattle.readings.proofs.run.Tie as tie
 
 abbrev Inv-loop : tie.InvT-loop
-Inv-loop input at₀ at = Unit {0}
+Inv-loop script lent₀ at₀ lent at = Unit {0}
 
 abbrev μ-loop : tie.MeasureT-loop
-μ-loop input at₀ at = length input - at
+μ-loop script lent₀ at₀ lent at = length script - at
 
 loop-holds : tie.Need-loop-holds Inv-loop μ-loop
 loop-holds c = search needs
@@ -23,8 +20,8 @@ find-requires c κs = search needs
 part-requires : tie.Need-part-requires Inv-loop μ-loop
 part-requires c κs = search needs
 
-case-requires : tie.Need-case-requires Inv-loop μ-loop
-case-requires c κs = search needs
+line-done-requires : tie.Need-line-done-requires Inv-loop μ-loop
+line-done-requires c κs = search needs
 
 returns : tie.Need-returns Inv-loop μ-loop
 returns c = search needs
@@ -41,8 +38,8 @@ loop-again c = search needs
 returns-2 : tie.Need-returns-2 Inv-loop μ-loop
 returns-2 c = search needs
 
-pub each-line-spec : {M : Type 1} → statement M
-each-line-spec =
+pub run-spec : {M : Type 1} → statement M
+run-spec =
     tie.close
     (tie.spec
     Inv-loop
@@ -50,7 +47,7 @@ each-line-spec =
     loop-holds
     find-requires
     part-requires
-    case-requires
+    line-done-requires
     returns
     add-at
     loop-less
