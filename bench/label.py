@@ -67,7 +67,7 @@ def eight_from(i):
 
 
 def shape(follows, cap_level=15):
-    """A book of crates/shapes: its caps and its floors, on the last item, and these follows."""
+    """A hard book of crates/tables: its caps and its floors, on the last item, and these follows."""
     caps = [cap(i, cap_level) for i in range(256)]
     floors = [floor([255], r % 10, 1 << r % 32 * 2) for r in range(256, 768)]
     return text_of(fitting(caps + floors + follows))

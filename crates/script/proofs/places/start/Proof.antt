@@ -1,0 +1,50 @@
+-- `places::start` meets its contract. Assumes nothing.
+use Prim.Native.Nat.{_-_}
+use borrow.Author.Needs.{needs}
+use Rattle.script.proofs.places.start.Statement.{statement}
+use Rattle.script.proofs.places.start.Tie as tie
+
+abbrev Inv-loop : tie.InvT-loop
+Inv-loop bytes separator k at₀ i₀ at i = Unit {0}
+
+abbrev μ-loop : tie.MeasureT-loop
+μ-loop bytes separator k at₀ i₀ at i = k - i
+
+past-requires : tie.Need-past-requires Inv-loop μ-loop
+past-requires c κs = search needs
+
+loop-holds : tie.Need-loop-holds Inv-loop μ-loop
+loop-holds c = search needs
+
+find-requires : tie.Need-find-requires Inv-loop μ-loop
+find-requires c κs = search needs
+
+past-requires-2 : tie.Need-past-requires-2 Inv-loop μ-loop
+past-requires-2 c κs = search needs
+
+add-i : tie.Need-add-i Inv-loop μ-loop
+add-i c = search needs
+
+loop-less : tie.Need-loop-less Inv-loop μ-loop
+loop-less c = search needs
+
+loop-again : tie.Need-loop-again Inv-loop μ-loop
+loop-again c = search needs
+
+returns : tie.Need-returns Inv-loop μ-loop
+returns c = search needs
+
+pub start-spec : {M : Type 1} → statement M
+start-spec =
+    tie.close
+    (tie.spec
+    Inv-loop
+    μ-loop
+    past-requires
+    loop-holds
+    find-requires
+    past-requires-2
+    add-i
+    loop-less
+    loop-again
+    returns)
