@@ -49,12 +49,14 @@ pub const CHANGED: u64 = 14;
 
 const UNKNOWN: u64 = 15;
 
-const END: u64 = 16;
+pub const END: u64 = 16;
+
+pub const LISTED: u64 = 17;
 
 // Prints a text, with numbers in the place of each `#`.
 pub fn tell(text: u64, first: u64, second: u64) {
     let all =
-        b" solve:; labelled #:; refused # at #; |; x#; #/; check; with item # at;: met\n;: unmet #\n;: refused # at #\n;: bytes=# sum=#;: refused=# at=#;, kept\n;, CHANGED\n;unknown: ;\n";
+        b" solve:; labelled #:; refused # at #; |; x#; #/; check; with item # at;: met;: unmet #;: refused # at #;: bytes=# sum=#;: refused=# at=#;, kept\n;, CHANGED\n;unknown: ;\n;, as a list";
     say_form(piece(all, b';', text), first, second);
 }
 

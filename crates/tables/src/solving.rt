@@ -1,8 +1,15 @@
 // Solving and checking, with lent labels that hold old words at first.
+use super::show::END;
+use super::show::LISTED;
 use super::show::say_checked;
 use super::show::say_checking;
 use super::show::say_solved;
+use super::show::tell;
 use checker::check;
+use checker::list::check_array;
+use rules::MOST_RULES;
+use rules::Rule;
+use rules::rule_at;
 use script::book::Book;
 use script::book::MANY_LABELS;
 use script::book::SOLVE;
@@ -49,12 +56,25 @@ pub fn act(script: &[u8], c: u64, b: Book, rules: &[u64]) -> Book {
     b
 }
 
-// Checks the labels and prints what was answered, unless the command only solves.
+// Checks the labels, with the rules as a table and as a list, and prints what was answered, unless the command only solves.
 fn checked(script: &[u8], c: u64, b: Book, rules: &[u64], levels: &[u64], marks: &[u64]) {
     if c == SOLVE {
         return;
     }
-    let answer = check(rules, b.m, b.n, levels, marks);
     say_checking(script, c, b);
-    say_checked(answer);
+    say_checked(check(rules, b.m, b.n, levels, marks));
+    tell(LISTED, 0, 0);
+    say_checked(check_array(records(rules), b.m, b.n, levels, marks));
+    tell(END, 0, 0);
+}
+
+// The rules of a table as records, as many as a list may hold.
+fn records(rules: &[u64]) -> [Rule; MOST_RULES] {
+    let mut list = [rule_at(rules, 0); MOST_RULES];
+    let mut r: usize = 0;
+    while r < MOST_RULES {
+        list[r] = rule_at(rules, r);
+        r += 1;
+    }
+    list
 }
