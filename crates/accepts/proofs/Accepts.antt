@@ -1,9 +1,9 @@
 -- The tests of a rule and of a table, one law for each answer that the code can give.
 -- Assumes nothing.
 use mathlib.Core.Path.{_≡_, sym, subst}
-use mathlib.Core.Bool.{Bool, true, false}
+use mathlib.Core.Bool.{true, false}
 use mathlib.Core.List.{List}
-use Prim.Native.Nat.{ℕ, zero, suc, _+_, _*_, _≤_, _<_}
+use Prim.Native.Nat.{ℕ, _+_, _*_, _≤_, _<_}
 use native.Mathlib.Numerals.{add-one}
 use native.Mathlib.Omega.{arith}
 use lib.Dec.{eqb, ltb, leb}
@@ -13,7 +13,7 @@ use Rattle.classes.proofs.Tells.{tells-no, tells-yes, tells-eqb, tells-ltb, tel
 use Rattle.rules.specs.declared.Rule.{Rule}
 use Rattle.rules.specs.Record.{leftItem}
 use Rattle.rules.specs.Table.{recordAt}
-use Rattle.accepts.specs.Accepted.{PlaceAccepted, LeftAccepted, RuleAccepted, Standing, RulesAccepted, TableAccepted}
+use Rattle.accepts.specs.Accepted.{PlaceAccepted, LeftAccepted, RuleAccepted, Standing, TableAccepted}
 
 -- One place of the left side: beyond the last name; a name that is no item; the last name; a name with another behind it.
 pub place-spare : (n : ℕ) (x : Rule) (k : ℕ) → x .count ≤ k → Tells (PlaceAccepted n x k) (eqb (leftItem x k) 0)

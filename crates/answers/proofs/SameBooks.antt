@@ -3,7 +3,7 @@
 -- Assumes nothing.
 use mathlib.Core.Path.{_≡_, refl, sym, ap, ap₂, subst}
 use mathlib.Core.List.{List, [], _∷_, _++_}
-use Prim.Native.Nat.{ℕ, _+_, _*_, _<_}
+use Prim.Native.Nat.{ℕ, _+_, _<_}
 use native.Mathlib.Omega.{arith}
 use Rattle.classes.specs.declared.Class.{Class}
 use Rattle.labelling.specs.Values.{Values}
@@ -12,18 +12,15 @@ use Rattle.labelling.specs.Rules.{Book, Met, mapRule}
 use Rattle.labelling.specs.Labelling.{Labelling, Wanted}
 use Rattle.labelling.specs.Parts.{Parts, Refused, inPart, partValues}
 use Rattle.labelling.specs.Classes.{classes, classParts}
-use Rattle.items.specs.Names.{nameRoom}
 use Rattle.items.specs.Table.{nameOf}
-use Rattle.items.proofs.Counted.{SameItems}
 use Rattle.rules.specs.Record.{labelsIn, meaningOf}
-use Rattle.rules.specs.Table.{ruleWords, wordAt, bookOf}
+use Rattle.rules.specs.Table.{bookOf}
 use Rattle.tokens.specs.Tokens.{classText}
 use Rattle.writer.specs.Texts.{formLine, endLine, labelKey, labelLine, labelsText}
 use Rattle.writer.specs.Writing.{Tables}
 use Rattle.rulebook.specs.RoundTrip.{SameTables}
-use Rattle.rulebook.proofs.Buffers.{SameFront, take-same, take-room, front-items}
-use Rattle.rulebook.proofs.Entries.{same-names, record-same}
 use Rattle.rulebook.proofs.Pieces.{pieces-same}
+use Rattle.rulebook.proofs.Counted.{rule-same, name-same}
 use Rattle.answers.specs.Answering.{BookSays, unlabelled, labelled}
 
 -- The same items, and the same rules in the same order.
@@ -75,23 +72,12 @@ labels-text-same t t′ n levels marks levels′ marks′ names labels =
 
 -- Tables that are equal up to their counts have the same answer.
 module _ {t w t′ w′ : List ℕ} {n m : ℕ} (s : SameTables n m t w t′ w′) (a : Tables t n w m) where
-  items-same : SameItems n t t′
-  items-same = front-items (take-same (s .items)) (a .items .room) (take-room (n * nameRoom) t t′ (s .items) (a .items .room))
-
-  words : SameFront (m * ruleWords) w w′
-  words = take-same (s .rules)
-
   rules-same : SameRules (bookOf w′ m n) (bookOf w m n)
-  unfolding wordAt
-  rules-same = record {
-    items = refl;
-    rules = refl;
-    each = λ r h. ap meaningOf (record-same w′ w r (λ k l. sym (words .same (r * 13 + k) (omega arith))));
-  }
+  rules-same = record { items = refl; rules = refl; each = λ r h. ap meaningOf (rule-same s a r h) }
 
   pub book-moved : {x : List ℕ} → BookSays t′ n w′ m x → BookSays t n w m x
   book-moved (unlabelled p) = unlabelled (refused-moved classParts rules-same p)
   book-moved (labelled levels marks f) =
       subst (BookSays t n w m)
-      (labels-text-same t t′ n levels marks levels marks (λ i h. sym (same-names items-same (a .items) i h)) (λ i h. refl))
+      (labels-text-same t t′ n levels marks levels marks (λ i h. sym (name-same s a i h)) (λ i h. refl))
       (labelled levels marks (wanted-moved classes rules-same f))

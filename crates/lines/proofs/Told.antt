@@ -19,7 +19,7 @@ use Rattle.items.specs.Names.{nameRoom}
 use Rattle.items.proofs.Names.{name-spelled}
 use Rattle.scans.specs.Bytes.{byteAt}
 use Rattle.scans.proofs.Places.{byte-inside}
-use Rattle.keys.specs.Keys.{keyText, keyAt}
+use Rattle.keys.specs.Keys.{keyAt}
 use Rattle.keys.specs.declared.Key.{Key}
 use Rattle.keys.specs.declared.ReadKey.{ReadKey}
 use Rattle.keys.proofs.KeyTexts.{key-some, key-is-text}

@@ -35,7 +35,7 @@ module _ {t w t′ w′ : List ℕ} {n m : ℕ} (s : SameTables n m t w t′ w�
   words : SameFront (m * ruleWords) w w′
   words = take-same (s .rules)
 
-  rule-same : (r : ℕ) → r < m → recordAt w′ r ≡ recordAt w r
+  pub rule-same : (r : ℕ) → r < m → recordAt w′ r ≡ recordAt w r
   unfolding wordAt
   rule-same r h = record-same w′ w r (λ k l. sym (words .same (r * 13 + k) (omega arith)))
 
@@ -56,7 +56,7 @@ module _ {t w t′ w′ : List ℕ} {n m : ℕ} (s : SameTables n m t w t′ w�
     };
   }
 
-  name-same : (i : ℕ) → i < n → nameOf t′ i ≡ nameOf t i
+  pub name-same : (i : ℕ) → i < n → nameOf t′ i ≡ nameOf t i
   name-same = same-names items-same (a .items)
 
   -- The line of an accepted rule.
