@@ -94,7 +94,7 @@ fn case(line: &[u8], lent: Lent) {
 
 fn described(description: &[u8], lent: Lent) {
     let mut text = [0u8; ROOM];
-    let len = make(description, &mut text, 0);
+    let len = make(description, &mut text);
     tried(part(&text, 0, len), lent);
 }
 

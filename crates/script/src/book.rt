@@ -61,7 +61,9 @@ pub const LABEL: u64 = 16;
 
 const NOTHING: u64 = 17;
 
-pub const NAME: u64 = 18;
+const NAME: u64 = 18;
+
+pub const UNKNOWN: u64 = 32;
 
 // One rule too many; the words of a table of so many rules, the bytes of an item table with one name too many, and the labels of so many items.
 pub const MANY_RULES: usize = MOST_RULES + 1;
@@ -125,7 +127,7 @@ impl Book {
         self
     }
 
-    // The number of the command, and 32 where there is none such.
+    // The number of the command, and UNKNOWN where there is none such.
     pub fn command(self, script: &[u8]) -> u64 {
         if byte_at(script, self.to) == b':' {
             return NAME;

@@ -21,11 +21,11 @@ struct Making {
     turn: u64,
 }
 
-// Makes the text that a description gives at a place of the lent room, and answers its end. What the room cannot hold is left out.
-pub fn make(description: &[u8], text: &mut [u8], at: usize) -> usize {
+// Makes the text that a description gives, and answers its length. What the lent room cannot hold is left out.
+pub fn make(description: &[u8], text: &mut [u8]) -> usize {
     let mut m = Making {
         from: 0,
-        to: at,
+        to: 0,
         piece: 0,
         times: 0,
         turn: 0,

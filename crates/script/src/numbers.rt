@@ -86,13 +86,9 @@ pub fn hex(digits: &[u8]) -> u64 {
     n
 }
 
-// The worth of a digit, at most 15; 0 for any other byte.
+// The worth of a hex digit: `0` is 48, and `a` is 97, of which 64 counts as 9. At most 15 for any other byte.
 fn digit(b: u8) -> u64
     ensures { λ r. ⌜ r ≤ 15 ⌝ }
 {
-    match b {
-        b'0'..=b'9' => ((b - b'0') % 16) as u64,
-        b'a'..=b'f' => ((b - b'a') % 6 + 10) as u64,
-        _ => 0,
-    }
+    ((b % 16 + b / 64 * 9) % 16) as u64
 }

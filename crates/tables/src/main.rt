@@ -9,8 +9,8 @@ use script::book::Book;
 use script::book::CHECK;
 use script::book::LABEL;
 use script::book::MANY_WORDS;
-use script::book::NAME;
 use script::book::SOLVE;
+use script::book::UNKNOWN;
 use script::book::WRITE;
 use script::places::command_end;
 use script::places::part;
@@ -42,15 +42,16 @@ fn command(script: &[u8], b: Book, rules: &mut [u64]) -> Book {
     let line = b.line(script);
     let c = b.command(script);
     store(line, c, b.times, b.m, rules);
-    act(script, line, c, b, rules)
+    act(script, c, b, rules);
+    b.after(line, c)
 }
 
-// Does what a command does besides storing words.
-fn act(script: &[u8], line: &[u8], c: u64, b: Book, rules: &[u64]) -> Book {
+// Does a command that runs a routine, and prints one that is none.
+fn act(script: &[u8], c: u64, b: Book, rules: &[u64]) {
     match c {
         SOLVE..=CHECK => solving::act(script, c, b, rules),
         WRITE..=LABEL => writing::act(script, c, b, rules),
-        0..=NAME => b.after(line, c),
-        _ => show::unknown(line, b),
+        UNKNOWN => show::unknown(b.line(script)),
+        _ => {}
     }
 }

@@ -61,11 +61,10 @@ pub fn tell(text: u64, first: u64, second: u64) {
 }
 
 // Prints a command that is none.
-pub fn unknown(line: &[u8], b: Book) -> Book {
+pub fn unknown(line: &[u8]) {
     tell(UNKNOWN, 0, 0);
     say(line);
     tell(END, 0, 0);
-    b
 }
 
 // Prints what solving answered, and the buffers, unless labels are given.

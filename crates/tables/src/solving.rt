@@ -24,11 +24,12 @@ const OLD_LEVEL: u64 = 77;
 const OLD_MARKS: u64 = 0x77;
 
 // Solves, changes the labels that the command gives, and checks them.
-pub fn act(script: &[u8], c: u64, b: Book, rules: &[u64]) -> Book {
+pub fn act(script: &[u8], c: u64, b: Book, rules: &[u64]) {
+    let lent = front(rules, b.words);
     let mut levels = [OLD_LEVEL; MANY_LABELS];
     let mut marks = [OLD_MARKS; MANY_LABELS];
     let answer = solve(
-        front(rules, b.words),
+        lent,
         b.m,
         b.n,
         front_mut(&mut levels, b.levels),
@@ -49,11 +50,10 @@ pub fn act(script: &[u8], c: u64, b: Book, rules: &[u64]) -> Book {
         script,
         c,
         b,
-        front(rules, b.words),
+        lent,
         front(&new_levels, b.levels),
         front(&new_marks, b.marks),
     );
-    b
 }
 
 // Checks the labels, with the rules as a table and as a list, and prints what was answered, unless the command only solves.

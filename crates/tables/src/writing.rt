@@ -29,9 +29,9 @@ ghost use Prim.Native.Nat.{_≤_};
 const MANY_TEXT: usize = 33000;
 
 // Writes, and prints what was answered.
-pub fn act(script: &[u8], c: u64, b: Book, rules: &[u64]) -> Book {
+pub fn act(script: &[u8], c: u64, b: Book, rules: &[u64]) {
     let mut items = [0u8; MANY_BYTES];
-    make(b.item_table(script), &mut items, 0);
+    make(b.item_table(script), &mut items);
     let mut out = [OLD_BYTE; MANY_TEXT];
     let answer = written(
         script,
@@ -42,7 +42,6 @@ pub fn act(script: &[u8], c: u64, b: Book, rules: &[u64]) -> Book {
         front_bytes(&mut out, b.out),
     );
     say_written(script, b, answer, part(&out, 0, b.out));
-    b
 }
 
 // Writes a rulebook or a labelling.

@@ -7,10 +7,10 @@ use Rattle.script.proofs.make.make.Statement.{statement}
 use Rattle.script.proofs.make.make.Tie as tie
 
 abbrev Inv-loop : tie.InvT-loop
-Inv-loop description text₀ at m₀ steps₀ text m steps = length text ≡ length text₀
+Inv-loop description text₀ m₀ steps₀ text m steps = length text ≡ length text₀
 
 abbrev μ-loop : tie.MeasureT-loop
-μ-loop description text₀ at m₀ steps₀ text m steps = 100000 - steps
+μ-loop description text₀ m₀ steps₀ text m steps = 100000 - steps
 
 loop-holds : tie.Need-loop-holds Inv-loop μ-loop
 loop-holds c = search needs
