@@ -20,7 +20,7 @@ returns : tie.Need-returns Inv-loop μ-loop
 returns c = search (table-items, needs)
 
 returns-2 : tie.Need-returns-2 Inv-loop μ-loop
-returns-2 c = search (table-rules, needs)
+returns-2 c = table-rules _ _ _ (omega arith)
 
 mul-if3 : tie.Need-mul-if3 Inv-loop μ-loop
 mul-if3 c = search needs
