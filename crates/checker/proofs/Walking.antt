@@ -6,22 +6,24 @@ use mathlib.Core.List.{List}
 use Prim.Native.Nat.{ℕ, zero, suc, _≤_, _<_}
 use native.Mathlib.Decide.{decLt}
 use native.Mathlib.Nat.{not-suc-le-zero}
+use native.Mathlib.Numerals.{add-one}
 use native.Mathlib.Omega.{arith}
 use borrow.Author.Tests.{not-true, not-false}
 use lib.Dec.{leb}
 use lib.ListN.{length}
 use Rattle.classes.specs.Tells.{Tells}
-use Rattle.classes.proofs.Tells.{tells-no, tells-yes, tells-leb}
+use Rattle.classes.proofs.Bools.{true-not-false}
+use Rattle.classes.proofs.Tells.{tells-unique, tells-no, tells-yes, tells-leb}
 use Rattle.labelling.specs.Rules.{Met}
 use Rattle.labelling.specs.Classes.{classes}
-use Rattle.labels.specs.First.{Sought}
+use Rattle.labels.proofs.First.{all-none, all-more, sought-here}
 use Rattle.rules.specs.declared.Rule.{Rule}
 use Rattle.rules.specs.Record.{meaningOf, labelsIn}
 use Rattle.accepts.specs.Accepted.{RuleAccepted, Standing}
 use Rattle.checker.specs.declared.list.Seen.{Seen}
 use Rattle.checker.specs.declared.Checked.the-variants.{BadTable}
 use Rattle.checker.specs.Answer.{Said, said}
-use Rattle.checker.specs.Checking.{RuleMet, bad-table}
+use Rattle.checker.specs.Checking.{bad-table}
 use Rattle.checker.specs.Judging.{Judges}
 use Rattle.checker.specs.List.{listAt, ListAccepted}
 use Rattle.checker.specs.Walking.{Sizes, Count, InOrder, kindBefore, Known, Starts, Stands, SoughtOn, GoesOn, Concludes}
@@ -80,17 +82,14 @@ starts-so = record {
   start = λ at n levels marks. record {
     good = tells-yes order-none;
     kind = refl;
-    unmet = record { found = λ s. absurd (omega arith); nowhere = λ s. record { each = λ j t. absurd (not-suc-le-zero t) } };
+    unmet = record { found = λ s. absurd (omega arith); nowhere = λ s. all-none };
   };
 }
 
 -- Whether a rule may come behind those before it.
 module _ (before : Seen) (rule : Rule) (n : ℕ) where
   pub stands-after-bad : not (before .good) ≡ true → Tells (Stands before rule n) false
-  stands-after-bad e = tells-no (λ p. clash (not-true (before .good) e) (p .good))
-    where
-      clash : {b : Bool} → b ≡ false → b ≡ true → ⊥
-      clash e f = let z : _≡_ {A = ℕ} 0 1 = cc in omega arith
+  stands-after-bad e = tells-no (λ p. true-not-false (p .good) (not-true (before .good) e))
 
   pub stands-out-of-order : rule .kind < before .kind → Tells (Stands before rule n) false
   stands-out-of-order s = tells-no (λ p. omega (arith, p .order))
@@ -112,24 +111,15 @@ module _ {before : ℕ} {rule : Rule} {i : ℕ} {levels marks : List ℕ} where
   }
 
   pub sought-now : i ≤ before → (Met classes (meaningOf rule) (labelsIn levels marks) → ⊥) → SoughtOn before rule i levels marks i
-  sought-now s bad = record {
-    on = λ at here few x. record {
-      found = λ t. record { below = t; before = x .nowhere s; fails = λ p. bad (rw (← here) at (p .meets)) };
-      nowhere = λ t. absurd (omega arith);
-    };
-  }
+  sought-now s bad = record { on = λ at here few x. sought-here (omega arith) (x .nowhere s) (λ p. bad (rw (← here) at (p .meets))) }
 
   pub sought-none : i ≤ before → Met classes (meaningOf rule) (labelsIn levels marks) → SoughtOn before rule i levels marks 1024
   sought-none s good = record {
     on = λ at here few x. record {
       found = λ t. absurd (omega arith);
-      nowhere = λ t. record { each = λ j u. pick at here x j (decLt j i) u };
+      nowhere = λ t. rw (← add-one) (all-more (x .nowhere s) (record { meets = rw here at good }));
     };
   }
-    where
-      pick : (at : ℕ → Rule) → rule ≡ at i → Sought (RuleMet at levels marks) i before → (j : ℕ) → Dec (j < i) → j < suc i → RuleMet at levels marks j
-      pick at here x j (yes l) u = x .nowhere s .each j l
-      pick at here x j (no l) u = subst (RuleMet at levels marks) (omega arith) (record { meets = rw here at good })
 
 -- What is known after one rule more.
 pub goes-on : {before : Seen} {rule : Rule} {i n : ℕ} {levels marks : List ℕ} {g : Bool} {u : ℕ} → Tells (Stands before rule n) g → SoughtOn (before .unmet) rule i levels marks u → GoesOn before rule i n levels marks (record { good = g; kind = rule .kind; unmet = u })
@@ -147,13 +137,9 @@ goes-on {before} {rule} {i} {n} {levels} {marks} {g} t s = record {
     more : (at : ℕ → Rule) → rule ≡ at i → Known at n levels marks i before → Stands before rule n → InOrder at n (suc i)
     more at here x p = order-more (x .good .holds (p .good)) (rw (← x .kind, ← here) (p .order)) (subst (RuleAccepted n) here (p .accepted))
 
-    told : {P : Type 0} {b : Bool} → Tells P b → P → b ≡ true
-    told {b = true} t p = refl
-    told {b = false} t p = absurd (t .fails refl p)
-
     stands : (at : ℕ → Rule) → rule ≡ at i → Known at n levels marks i before → InOrder at n (suc i) → Stands before rule n
     stands at here x p = record {
-      good = told (x .good) (order-less p);
+      good = tells-unique (x .good) (tells-yes (order-less p));
       order = rw (x .kind, here) (order-rises i p);
       accepted = subst (RuleAccepted n) (sym here) (order-last p);
     }
