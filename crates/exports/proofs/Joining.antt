@@ -1,0 +1,83 @@
+-- Lines as a loop writes them, a comma behind each field that is kept, and one record's line behind the others. They rest on induction over the
+-- fields and the records.
+-- Assumes nothing.
+use mathlib.Core.Path.{_≡_, refl, sym, ap, _∙_}
+use mathlib.Core.Bool.{Bool, true, false, cond}
+use mathlib.Core.List.{List, [], _∷_, _++_, append-assoc, append-nil}
+use Prim.Native.Nat.{ℕ, _≤_, _<_}
+use native.Mathlib.Omega.{arith}
+use lib.ListN.{length, getD, length-append}
+use Rattle.exports.specs.Text.{keptOf, commaed, closedEach, joined, lineOf, linesOf}
+
+-- No field, no record.
+pub closed-none : closedEach [] ≡ []
+unfolding closedEach
+closed-none = refl
+
+pub joined-none : joined [] ≡ []
+unfolding joined
+joined-none = refl
+
+pub kept-none : (ks : List Bool) → keptOf ks [] ≡ []
+unfolding keptOf
+kept-none [] = refl
+kept-none (k ∷ ks) = refl
+
+pub lines-none : (kept : List Bool) → linesOf kept [] ≡ []
+unfolding linesOf
+lines-none kept = refl
+
+-- Whether there is a field shows in whether there is a byte.
+pub closed-some : (gs : List (List ℕ)) → 0 < length (closedEach gs) → 0 < length gs
+unfolding closedEach
+closed-some [] h = absurd (omega arith)
+closed-some (g ∷ gs) h = omega arith
+
+pub closed-empty : (gs : List (List ℕ)) → length (closedEach gs) ≤ 0 → gs ≡ []
+unfolding closedEach
+closed-empty [] h = refl
+closed-empty (g ∷ gs) h = absurd (omega (arith, length-append g (44 ∷ closedEach gs)))
+
+-- One more field.
+pub closed-one-more : (gs : List (List ℕ)) (f : List ℕ) → closedEach (gs ++ f ∷ []) ≡ closedEach gs ++ f ++ 44 ∷ []
+unfolding closedEach
+closed-one-more [] f = refl
+closed-one-more (g ∷ gs) f = ap (λ r. g ++ 44 ∷ r) (closed-one-more gs f) ∙ simp append-assoc
+
+-- The same with a comma before each field.
+comma-behind : (fs : List (List ℕ)) → 44 ∷ closedEach fs ≡ commaed fs ++ 44 ∷ []
+unfolding closedEach commaed
+comma-behind [] = refl
+comma-behind (f ∷ fs) = ap (λ r. 44 ∷ r) (ap (λ r. f ++ r) (comma-behind fs) ∙ sym (append-assoc f (commaed fs) (44 ∷ [])))
+
+-- Without the last comma they are joined.
+pub closed-joined : (gs : List (List ℕ)) → 0 < length gs → closedEach gs ≡ joined gs ++ 44 ∷ []
+unfolding closedEach joined
+closed-joined [] h = absurd (omega arith)
+closed-joined (f ∷ fs) h = ap (λ r. f ++ r) (comma-behind fs) ∙ sym (append-assoc f (commaed fs) (44 ∷ []))
+
+-- One more field of a record, kept or not.
+pub kept-one-more : (ks : List Bool) (fs : List (List ℕ)) (f : List ℕ) → length fs < length ks
+    → keptOf ks (fs ++ f ∷ []) ≡ keptOf ks fs ++ cond (getD ks (length fs) false) (f ∷ []) []
+unfolding keptOf
+kept-one-more [] fs f h = absurd (omega arith)
+kept-one-more (true ∷ []) [] f h = refl
+kept-one-more (false ∷ []) [] f h = refl
+kept-one-more (true ∷ k ∷ ks) [] f h = refl
+kept-one-more (false ∷ k ∷ ks) [] f h = refl
+kept-one-more (true ∷ ks) (g ∷ fs) f h = ap (λ r. g ∷ r) (kept-one-more ks fs f (omega arith))
+kept-one-more (false ∷ ks) (g ∷ fs) f h = kept-one-more ks fs f (omega arith)
+
+-- The lines of records one behind the other.
+pub lines-append : (kept : List Bool) (a b : List (List (List ℕ))) → linesOf kept (a ++ b) ≡ linesOf kept a ++ linesOf kept b
+unfolding linesOf
+lines-append kept [] b = refl
+lines-append kept (fs ∷ a) b =
+    ap (λ r. lineOf kept fs ++ r) (lines-append kept a b)
+    ∙ sym (append-assoc (lineOf kept fs) (linesOf kept a) (linesOf kept b))
+
+-- One more record.
+pub lines-one-more : (kept : List Bool) (rows : List (List (List ℕ))) (fs : List (List ℕ))
+    → linesOf kept (rows ++ fs ∷ []) ≡ linesOf kept rows ++ lineOf kept fs
+unfolding linesOf
+lines-one-more kept rows fs = lines-append kept rows (fs ∷ []) ∙ ap (λ r. linesOf kept rows ++ r) (append-nil (lineOf kept fs))

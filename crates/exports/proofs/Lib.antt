@@ -1,0 +1,7 @@
+-- Why it is true: that reading may be cut anywhere, and that columns held back leave no trace.
+pub mod Fitting
+pub mod Taking
+pub mod Gone
+pub mod Joining
+pub mod Cuts
+pub mod HeldBack

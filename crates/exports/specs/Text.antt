@@ -1,0 +1,68 @@
+-- What is left of an export for a reader: the text, and where the run is refused.
+-- Assumes nothing.
+use mathlib.Core.Path.{_≡_}
+use mathlib.Core.Bool.{Bool, true, false, cond}
+use mathlib.Core.List.{List, [], _∷_, _++_}
+use Prim.Native.Nat.{ℕ, _+_, _<_}
+use lib.ListN.{length, getD}
+use Rattle.exports.specs.Rows.{taken}
+
+-- Of each record the columns that are kept, in order.
+unfoldable pub keptOf : List Bool → List (List ℕ) → List (List ℕ)
+keptOf [] fs = []
+keptOf (k ∷ ks) [] = []
+keptOf (k ∷ ks) (f ∷ fs) = cond k (f ∷ keptOf ks fs) (keptOf ks fs)
+
+-- Fields "with commas between them".
+unfoldable pub commaed : List (List ℕ) → List ℕ
+commaed [] = []
+commaed (f ∷ fs) = 44 ∷ f ++ commaed fs
+
+unfoldable pub joined : List (List ℕ) → List ℕ
+joined [] = []
+joined (f ∷ fs) = f ++ commaed fs
+
+-- Each field with a comma behind it, one after the other.
+unfoldable pub closedEach : List (List ℕ) → List ℕ
+closedEach [] = []
+closedEach (f ∷ fs) = f ++ 44 ∷ closedEach fs
+
+-- "Each record written ends with CRLF (alone, where no column is kept)."
+abbrev pub lineOf : List Bool → List (List ℕ) → List ℕ
+lineOf kept fs = joined (keptOf kept fs) ++ 13 ∷ 10 ∷ []
+
+unfoldable pub linesOf : List Bool → List (List (List ℕ)) → List ℕ
+linesOf kept [] = []
+linesOf kept (fs ∷ rows) = lineOf kept fs ++ linesOf kept rows
+
+-- What is said of an export: it is accepted, or it is refused with a number and a place.
+pub data Verdict : Type 0 where
+  accepted : Verdict
+  refused : ℕ → ℕ → Verdict
+
+-- What is written, and what is said.
+pub record Outcome : Type 0 where
+  pub text : List ℕ
+  pub verdict : Verdict
+
+-- "16 CSV_SYNTAX at the record".
+abbrev pub csvSyntax : ℕ
+csvSyntax = 16
+
+-- "17 CSV_HEADER, place 1".
+abbrev pub csvHeader : ℕ
+csvHeader = 17
+
+-- The records of an export from the record of this number on, stripped to the columns that are kept. "A bad record stops the run, none of it
+-- written"; "records before it stand".
+unfoldable pub strippedFrom : List Bool → ℕ → List ℕ → Outcome
+strippedFrom kept number l = record {
+  text = linesOf kept (taken true (length kept) l .rows);
+  verdict = cond (taken true (length kept) l .faulty) (refused csvSyntax (number + length (taken true (length kept) l .rows))) accepted;
+}
+
+-- Two exports "differ only in columns held back": they have the same columns kept and as many records, and in each record the same bytes, quotes
+-- among them, in each column that is kept.
+pub record HeldBackApart (kept : List Bool) (a b : List (List (List ℕ))) : Type 0 where
+  pub count : length a ≡ length b
+  pub same : (r c : ℕ) → r < length a → c < length kept → getD kept c false ≡ true → getD (getD a r []) c [] ≡ getD (getD b r []) c []

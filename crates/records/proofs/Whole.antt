@@ -1,0 +1,81 @@
+-- What a whole record says: its bytes stand within the text, it has some if the text has, and it has a field. It rests on the same of a field.
+-- Assumes nothing.
+use mathlib.Core.Path.{_≡_, refl, subst}
+use mathlib.Core.Bool.{Bool, true, false, cond}
+use mathlib.Core.List.{List}
+use Prim.Native.Nat.{ℕ, zero, suc, _+_, _≤_}
+use native.Mathlib.Omega.{arith}
+use lib.Dec.{leb, ltb}
+use lib.ListN.{length, take, drop, length-drop}
+use Rattle.records.specs.Fields.{fieldAt}
+use Rattle.records.specs.Rows.{Row, line, ends, cut, broken, before, rowFrom, rowOf}
+use Rattle.records.specs.Rows.{Record, whole, more, bad, judged, recordAt, mostBytes}
+use Rattle.records.specs.declared.Field.{Field}
+use Rattle.records.proofs.Within.{comma-within, line-within, end-within}
+
+-- A row has a field, and lies within the text.
+abbrev RowLies : ℕ → Row → Type 0
+RowLies size (line fs n) = (n + 2 ≤ size) × (1 ≤ length fs)
+RowLies size (ends fs n) = (n ≡ size) × (1 ≤ length fs)
+RowLies size cut = Unit {0}
+RowLies size broken = Unit {0}
+
+-- A field and a comma more before a row.
+before-lies : (f : List ℕ) (n size rest : ℕ) → n + 1 + rest ≡ size → (r : Row) → RowLies rest r → RowLies size (before f n r)
+before-lies f n size rest e (line fs m) h = (omega (arith, h .0), omega arith)
+before-lies f n size rest e (ends fs m) h = (omega (arith, h .0), omega arith)
+before-lies f n size rest e cut h = tt
+before-lies f n size rest e broken h = tt
+
+-- The row at the front of a text lies within it.
+row-lies : (most : ℕ) (l : List ℕ) → RowLies (length l) (rowOf most l)
+unfolding rowOf
+row-lies zero l = tt
+row-lies (suc most) l = by (fieldAt l) refl (λ n. row-lies most (drop (n + 1) l))
+  where
+    by : (f : Field) → fieldAt l ≡ f → ((n : ℕ) → RowLies (length (drop (n + 1) l)) (rowOf most (drop (n + 1) l)))
+        → RowLies (length l) (rowFrom (rowOf most) l f)
+    by (Field.Comma n) e g =
+        before-lies (take n l) n (length l) (length (drop (n + 1) l)) (omega (arith, comma-within l e, length-drop (n + 1) l))
+        (rowOf most (drop (n + 1) l)) (g n)
+    by (Field.Line n) e g = (line-within l e, omega arith)
+    by (Field.End n) e g = (end-within l e, omega arith)
+    by Field.Open e g = tt
+    by Field.Bad e g = tt
+
+-- A whole record of k bytes, with its line end, at the front of a text.
+pub record WholeHere (l : List ℕ) (fs : List (List ℕ)) (k : ℕ) : Type 0 where
+  pub within : k ≤ length l
+  pub some : 1 ≤ length l → 1 ≤ k
+  pub fields : 1 ≤ length fs
+
+-- What a record says of the text.
+abbrev Says : List ℕ → Record → Type 0
+Says l (whole fs k) = WholeHere l fs k
+Says l more = Unit {0}
+Says l bad = Unit {0}
+
+-- What a test of the length chooses.
+says-closed : (t : Bool) (l : List ℕ) (fs : List (List ℕ)) (k : ℕ) → WholeHere l fs k → Says l (cond t (whole fs k) bad)
+says-closed true l fs k h = h
+says-closed false l fs k h = tt
+
+says-unfinished : (t : Bool) (l : List ℕ) → Says l (cond t more bad)
+says-unfinished true l = tt
+says-unfinished false l = tt
+
+-- What a row says, it says as a record.
+judged-says : (last : Bool) (l : List ℕ) (r : Row) → RowLies (length l) r → Says l (judged last (length l) r)
+judged-says last l (line fs k) h =
+    says-closed (leb k mostBytes) l fs (k + 2) (record { within = h .0; some = λ i. omega arith; fields = h .1 })
+judged-says true l (ends fs k) h =
+    says-closed (leb k mostBytes) l fs (k + 0) (record { within = omega (arith, h .0); some = λ i. omega (arith, h .0); fields = h .1 })
+judged-says false l (ends fs k) h = says-unfinished (ltb (length l) (mostBytes + 2)) l
+judged-says true l cut h = tt
+judged-says false l cut h = says-unfinished (ltb (length l) (mostBytes + 2)) l
+judged-says last l broken h = tt
+
+-- A record that is whole is there.
+pub whole-here : (last : Bool) (most : ℕ) (l : List ℕ) {fs : List (List ℕ)} {k : ℕ} → recordAt last most l ≡ whole fs k → WholeHere l fs k
+unfolding recordAt
+whole-here last most l e = subst (Says l) e (judged-says last l (rowOf most l) (row-lies most l))

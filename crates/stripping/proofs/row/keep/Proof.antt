@@ -1,0 +1,34 @@
+use borrow.Author.Needs.{needs}
+use Rattle.stripping.proofs.Making.{keeps-none, keeps-put, comma-in, comma-fits}
+use Rattle.stripping.proofs.row.keep.Statement.{statement}
+use Rattle.stripping.proofs.row.keep.Tie as tie
+use Rattle.stripping.proofs.row.keep.Reads as reads
+use Rattle.stripping.proofs.row.keep.Lts as lts
+use Rattle.puts.proofs.put.Reads as put-reads
+use Rattle.stripping.proofs.row.part.Reads as part-reads
+
+returns : tie.Need-returns
+returns c = search (keeps-none, needs)
+
+part-requires : tie.Need-part-requires
+part-requires c κs = search needs
+
+put-requires : tie.Need-put-requires
+put-requires c κs = search needs
+
+slice-write-made : tie.Need-slice-write-made
+slice-write-made c = search (comma-in, needs)
+
+add-result : tie.Need-add-result
+add-result c = search (comma-fits, needs)
+
+same-length : tie.Need-same-length
+same-length c = search needs
+
+returns-2 : tie.Need-returns-2
+returns-2 c = search (keeps-put, needs)
+
+pub keep-spec : {M : Type 1} → statement M
+keep-spec =
+    tie.close
+    (tie.spec returns part-requires put-requires slice-write-made add-result same-length returns-2)
