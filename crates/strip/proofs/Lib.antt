@@ -1,0 +1,2 @@
+-- Why the program stays within its buffers.
+pub mod Inside

@@ -1,0 +1,113 @@
+use borrow.Author.Needs.{needs}
+use Rattle.strip.proofs.Inside.{long-prefix, kept-inside, kept-long}
+use Rattle.strip.proofs.run.Statement.{statement}
+use Rattle.strip.proofs.run.Tie as tie
+use Rattle.strip.proofs.run.Reads as reads
+use Rattle.strip.proofs.run.Lts as lts
+use Rattle.columns.proofs.kept_columns.Reads as kept-columns-reads
+use Rattle.os.proofs.arg.Reads as arg-reads
+use Rattle.os.proofs.fail.Reads as fail-reads
+use Rattle.strip.proofs.fill.Reads as fill-reads
+use Rattle.strip.proofs.refuse.Reads as refuse-reads
+use Rattle.strip.proofs.strip_all.Reads as strip-all-reads
+
+slice-aggregate-arg : tie.Need-slice-aggregate-arg
+slice-aggregate-arg c = search needs
+
+arg-requires : tie.Need-arg-requires
+arg-requires c κs = search needs
+
+slice-aggregate-fill : tie.Need-slice-aggregate-fill
+slice-aggregate-fill c = search needs
+
+fill-requires : tie.Need-fill-requires
+fill-requires c κs = search needs
+
+slice-aggregate-fail : tie.Need-slice-aggregate-fail
+slice-aggregate-fail c = search needs
+
+fail-requires : tie.Need-fail-requires
+fail-requires c κs = search needs
+
+returns : tie.Need-returns
+returns c = search needs
+
+array-share-prefix-class : tie.Need-array-share-prefix-class
+array-share-prefix-class c = search needs
+
+slice-aggregate-kept-columns : tie.Need-slice-aggregate-kept-columns
+slice-aggregate-kept-columns c = search needs
+
+array-share-prefix-buf : tie.Need-array-share-prefix-buf
+array-share-prefix-buf c = search needs
+
+slice-aggregate-kept-columns-2 : tie.Need-slice-aggregate-kept-columns-2
+slice-aggregate-kept-columns-2 c = long-prefix _ _ (c .before .before .before .before .fill .ensures)
+
+slice-aggregate-kept-columns-3 : tie.Need-slice-aggregate-kept-columns-3
+slice-aggregate-kept-columns-3 c = search needs
+
+kept-columns-requires : tie.Need-kept-columns-requires
+kept-columns-requires c κs = search needs
+
+enum-known-n : tie.Need-enum-known-n
+enum-known-n c = search needs
+
+array-share-prefix-kept : tie.Need-array-share-prefix-kept
+array-share-prefix-kept c = search (kept-inside, needs)
+
+slice-aggregate-strip-all : tie.Need-slice-aggregate-strip-all
+slice-aggregate-strip-all c = search (kept-long, needs)
+
+slice-aggregate-strip-all-2 : tie.Need-slice-aggregate-strip-all-2
+slice-aggregate-strip-all-2 c = search needs
+
+strip-all-requires : tie.Need-strip-all-requires
+strip-all-requires c κs = search needs
+
+enum-told : tie.Need-enum-told
+enum-told c = search needs
+
+returns-2 : tie.Need-returns-2
+returns-2 c = search needs
+
+enum-known-number : tie.Need-enum-known-number
+enum-known-number c = search needs
+
+refuse-requires : tie.Need-refuse-requires
+refuse-requires c κs = search needs
+
+returns-3 : tie.Need-returns-3
+returns-3 c = search needs
+
+returns-4 : tie.Need-returns-4
+returns-4 c = search needs
+
+pub run-spec : {M : Type 1} → statement M
+run-spec =
+    tie.close
+    (tie.spec
+    slice-aggregate-arg
+    arg-requires
+    slice-aggregate-fill
+    fill-requires
+    slice-aggregate-fail
+    fail-requires
+    returns
+    array-share-prefix-class
+    slice-aggregate-kept-columns
+    array-share-prefix-buf
+    slice-aggregate-kept-columns-2
+    slice-aggregate-kept-columns-3
+    kept-columns-requires
+    enum-known-n
+    array-share-prefix-kept
+    slice-aggregate-strip-all
+    slice-aggregate-strip-all-2
+    strip-all-requires
+    enum-told
+    returns-2
+    enum-known-number
+    refuse-requires
+    returns-3
+    returns-4)
