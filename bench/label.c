@@ -6,6 +6,12 @@
 #include <stdlib.h>
 #include <string.h>
 
+/* bench/strip.c includes this file, and has a main of its own and its refusals elsewhere. */
+#ifndef REFUSALS
+#define REFUSALS stdout
+#define LABEL_MAIN
+#endif
+
 enum { MOST_BYTES = 32768, MOST_ITEMS = 256, MOST_RULES = 1024, MOST_LEFT = 8, MOST_NAME = 16, TOP_LEVEL = 15 };
 
 enum refusal {
@@ -17,7 +23,8 @@ enum refusal {
     NO_SUCH_ITEM,
     LEFT_ORDER,
     END_COUNT,
-    NO_LABELLING
+    NO_LABELLING,
+    BAD_LABEL = 12
 };
 
 enum key { FORM, ITEM, CAP, FLOOR, FOLLOW, END, START };
@@ -64,7 +71,7 @@ static int n_items, n_rules, n_floors, n_follows;
 
 static void refuse(enum refusal number, int place)
 {
-    printf("form=1\nrefused=%d\nat=%d\nend=3\n", number, place);
+    fprintf(REFUSALS, "form=1\nrefused=%d\nat=%d\nend=3\n", number, place);
     exit(0);
 }
 
@@ -345,6 +352,7 @@ static void solve(void)
     }
 }
 
+#ifdef LABEL_MAIN
 int main(void)
 {
     size_t length = fread(text, 1, sizeof text, stdin);
@@ -358,3 +366,4 @@ int main(void)
     printf("end=%d\n", n_items + 1);
     return 0;
 }
+#endif

@@ -128,7 +128,7 @@ def compiler():
     return [name] if shutil.which(name) else None
 
 
-def build(room):
+def build(room, source=SOURCE):
     """The C program, built into a directory, or None."""
     command = compiler()
     if command is None:
@@ -136,7 +136,7 @@ def build(room):
         return None
     print(f"C is built by {command[0]} -O2; this machine is {platform.machine()}")
     program = os.path.join(room, "c")
-    subprocess.run(command + ["-O2", "-o", program, SOURCE], check=True)
+    subprocess.run(command + ["-O2", "-o", program, source], check=True)
     return program
 
 
