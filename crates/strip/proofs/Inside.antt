@@ -5,10 +5,11 @@ use mathlib.Core.Bool.{Bool}
 use mathlib.Core.List.{List, _++_}
 use Prim.Native.Nat.{ℕ, _+_, _≤_}
 use native.Mathlib.Omega.{arith}
-use lib.ListN.{length, take, drop, length-append}
+use lib.ListN.{length, take}
 use lib.Seq.{length-take-le}
-use Rattle.columns.specs.Columns.{HeaderSays, keeps, ColumnsSays, headed}
+use Rattle.columns.specs.Columns.{ColumnsSays}
 use Rattle.columns.specs.declared.Columns.{Columns}
+use Rattle.columns.proofs.Kept.{columns-kept}
 use Rattle.stripping.specs.Stripping.{StripSays}
 use Rattle.stripping.specs.declared.Stripped.{Stripped}
 use Rattle.strip.specs.Held.{Held}
@@ -21,11 +22,7 @@ long-prefix n d h = sym (length-take-le n d h)
 -- No more columns are kept than the buffer has room for.
 pub kept-inside : {book class export : List ℕ} {last : Bool} {before : List Bool} {r : Columns} {after : List Bool} {n : ℕ}
     → ColumnsSays book class export last before r after → r ≡ Columns.Kept n → n ≤ length after
-kept-inside {book} {class} {export} {last} {before} {r} {after} {n} p e = by (subst (λ (x : Columns). ColumnsSays book class export last before x after) e p)
-  where
-    by : {m : ℕ} {d : List Bool} → ColumnsSays book class export last before (Columns.Kept m) d → m ≤ length d
-    by (headed levels marks x y z (keeps {fs = fs} {kept = kept} a b c d)) =
-        omega (arith, d .columns, length-append kept (drop (length fs) before))
+kept-inside p e = columns-kept p e .kept .within
 
 pub kept-long : {book class export : List ℕ} {last : Bool} {before : List Bool} {r : Columns} {after : List Bool} {n : ℕ}
     → ColumnsSays book class export last before r after → r ≡ Columns.Kept n → n ≡ length (take n after)

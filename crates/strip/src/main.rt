@@ -45,6 +45,10 @@ fn main() {
     }
     let mut path = io::buffer();
     let n = os::arg(1, &mut path);
+    if os::errno() != 0 {
+        os::fail(b"BOOK");
+        return;
+    }
     let fd = os::open_read(&path[..n]);
     if fd < 0 {
         os::fail(&path[..n]);
@@ -86,10 +90,17 @@ fn fill(fd: i32, buf: &mut [u8], from: usize) -> Filled
     }
 }
 
-// Strips the export by this book and the class that the second argument gives. An argument that is too long for the buffer is no class.
+// Strips the export by this book and the class that the second argument gives, if neither is refused. An argument that is too long for the buffer is no class.
 fn run(book: &[u8]) {
     let mut class = [0u8; 64];
     let k = os::arg(2, &mut class);
+    if !is_refused(book, &class[..k]) {
+        strip_export(book, &class[..k]);
+    }
+}
+
+// Strips the export by a book and a class that are right.
+fn strip_export(book: &[u8], class: &[u8]) {
     let mut buf = [0u8; ROOM];
     let read = fill(STDIN_FILENO, &mut buf, 0);
     if read.failed {
@@ -98,10 +109,23 @@ fn run(book: &[u8]) {
     }
     let have = read.have;
     let mut kept = [false; MOST_COLUMNS];
-    match kept_columns(book, &class[..k], &buf[..have], read.last, &mut kept) {
+    match kept_columns(book, class, &buf[..have], read.last, &mut kept) {
         Columns::Kept(n) => strip_all(&kept[..n], &mut buf, have, read.last),
         Columns::More => return,
         Columns::Refused(number, place) => refuse(number, place),
+    }
+}
+
+// Whether the book or the class is refused, and then prints why: before any export is read.
+fn is_refused(book: &[u8], class: &[u8]) -> bool {
+    let mut kept = [false; MOST_COLUMNS];
+    match kept_columns(book, class, b"", false, &mut kept) {
+        Columns::Refused(number, place) => {
+            refuse(number, place);
+            true
+        }
+        Columns::Kept(_) => false,
+        Columns::More => false,
     }
 }
 

@@ -9,6 +9,7 @@ use Rattle.io.proofs.write_all.Reads as write-all-reads
 use Rattle.libc.proofs.close.Reads as close-reads
 use Rattle.os.proofs.arg.Reads as arg-reads
 use Rattle.os.proofs.arg_count.Reads as arg-count-reads
+use Rattle.os.proofs.errno.Reads as errno-reads
 use Rattle.os.proofs.fail.Reads as fail-reads
 use Rattle.os.proofs.open_read.Reads as open-read-reads
 use Rattle.strip.proofs.fill.Reads as fill-reads
@@ -35,6 +36,18 @@ slice-aggregate-arg c = search needs
 arg-requires : tie.Need-arg-requires
 arg-requires c κs = search needs
 
+errno-requires : tie.Need-errno-requires
+errno-requires c κs = search needs
+
+slice-aggregate-fail : tie.Need-slice-aggregate-fail
+slice-aggregate-fail c = search needs
+
+fail-requires : tie.Need-fail-requires
+fail-requires c κs = search needs
+
+returns-2 : tie.Need-returns-2
+returns-2 c = search needs
+
 array-share-prefix-path : tie.Need-array-share-prefix-path
 array-share-prefix-path c = search needs
 
@@ -47,14 +60,14 @@ open-read-requires c κs = search needs
 array-share-prefix-path-2 : tie.Need-array-share-prefix-path-2
 array-share-prefix-path-2 c = search needs
 
-slice-aggregate-fail : tie.Need-slice-aggregate-fail
-slice-aggregate-fail c = search needs
+slice-aggregate-fail-2 : tie.Need-slice-aggregate-fail-2
+slice-aggregate-fail-2 c = search needs
 
-fail-requires : tie.Need-fail-requires
-fail-requires c κs = search needs
+fail-requires-2 : tie.Need-fail-requires-2
+fail-requires-2 c κs = search needs
 
-returns-2 : tie.Need-returns-2
-returns-2 c = search needs
+returns-3 : tie.Need-returns-3
+returns-3 c = search needs
 
 slice-aggregate-fill : tie.Need-slice-aggregate-fill
 slice-aggregate-fill c = search needs
@@ -65,14 +78,14 @@ fill-requires c κs = search needs
 array-share-prefix-path-3 : tie.Need-array-share-prefix-path-3
 array-share-prefix-path-3 c = search needs
 
-slice-aggregate-fail-2 : tie.Need-slice-aggregate-fail-2
-slice-aggregate-fail-2 c = search needs
+slice-aggregate-fail-3 : tie.Need-slice-aggregate-fail-3
+slice-aggregate-fail-3 c = search needs
 
-fail-requires-2 : tie.Need-fail-requires-2
-fail-requires-2 c κs = search needs
+fail-requires-3 : tie.Need-fail-requires-3
+fail-requires-3 c κs = search needs
 
-returns-3 : tie.Need-returns-3
-returns-3 c = search needs
+returns-4 : tie.Need-returns-4
+returns-4 c = search needs
 
 close-requires : tie.Need-close-requires
 close-requires c κs = search needs
@@ -86,8 +99,8 @@ slice-aggregate-run c = long-prefix _ _ (c .before .before .before .before .fill
 run-requires : tie.Need-run-requires
 run-requires c κs = search needs
 
-returns-4 : tie.Need-returns-4
-returns-4 c = search needs
+returns-5 : tie.Need-returns-5
+returns-5 c = search needs
 
 pub main-spec : {M : Type 1} → statement M
 main-spec =
@@ -100,21 +113,25 @@ main-spec =
     buffer-requires
     slice-aggregate-arg
     arg-requires
+    errno-requires
+    slice-aggregate-fail
+    fail-requires
+    returns-2
     array-share-prefix-path
     slice-aggregate-open-read
     open-read-requires
     array-share-prefix-path-2
-    slice-aggregate-fail
-    fail-requires
-    returns-2
-    slice-aggregate-fill
-    fill-requires
-    array-share-prefix-path-3
     slice-aggregate-fail-2
     fail-requires-2
     returns-3
+    slice-aggregate-fill
+    fill-requires
+    array-share-prefix-path-3
+    slice-aggregate-fail-3
+    fail-requires-3
+    returns-4
     close-requires
     array-share-prefix-book
     slice-aggregate-run
     run-requires
-    returns-4)
+    returns-5)

@@ -1,21 +1,14 @@
 use borrow.Author.Needs.{needs}
 use Rattle.strip.proofs.Inside.{long-prefix, kept-inside, kept-long}
-use Rattle.strip.proofs.run.Statement.{statement}
-use Rattle.strip.proofs.run.Tie as tie
-use Rattle.strip.proofs.run.Reads as reads
-use Rattle.strip.proofs.run.Lts as lts
+use Rattle.strip.proofs.strip_export.Statement.{statement}
+use Rattle.strip.proofs.strip_export.Tie as tie
+use Rattle.strip.proofs.strip_export.Reads as reads
+use Rattle.strip.proofs.strip_export.Lts as lts
 use Rattle.columns.proofs.kept_columns.Reads as kept-columns-reads
-use Rattle.os.proofs.arg.Reads as arg-reads
 use Rattle.os.proofs.fail.Reads as fail-reads
 use Rattle.strip.proofs.fill.Reads as fill-reads
 use Rattle.strip.proofs.refuse.Reads as refuse-reads
 use Rattle.strip.proofs.strip_all.Reads as strip-all-reads
-
-slice-aggregate-arg : tie.Need-slice-aggregate-arg
-slice-aggregate-arg c = search needs
-
-arg-requires : tie.Need-arg-requires
-arg-requires c κs = search needs
 
 slice-aggregate-fill : tie.Need-slice-aggregate-fill
 slice-aggregate-fill c = search needs
@@ -32,20 +25,14 @@ fail-requires c κs = search needs
 returns : tie.Need-returns
 returns c = search needs
 
-array-share-prefix-class : tie.Need-array-share-prefix-class
-array-share-prefix-class c = search needs
-
-slice-aggregate-kept-columns : tie.Need-slice-aggregate-kept-columns
-slice-aggregate-kept-columns c = search needs
-
 array-share-prefix-buf : tie.Need-array-share-prefix-buf
 array-share-prefix-buf c = search needs
 
-slice-aggregate-kept-columns-2 : tie.Need-slice-aggregate-kept-columns-2
-slice-aggregate-kept-columns-2 c = long-prefix _ _ (c .before .before .before .before .fill .ensures)
+slice-aggregate-kept-columns : tie.Need-slice-aggregate-kept-columns
+slice-aggregate-kept-columns c = long-prefix _ _ (c .before .before .before .fill .ensures)
 
-slice-aggregate-kept-columns-3 : tie.Need-slice-aggregate-kept-columns-3
-slice-aggregate-kept-columns-3 c = search needs
+slice-aggregate-kept-columns-2 : tie.Need-slice-aggregate-kept-columns-2
+slice-aggregate-kept-columns-2 c = search needs
 
 kept-columns-requires : tie.Need-kept-columns-requires
 kept-columns-requires c κs = search needs
@@ -83,22 +70,18 @@ returns-3 c = search needs
 returns-4 : tie.Need-returns-4
 returns-4 c = search needs
 
-pub run-spec : {M : Type 1} → statement M
-run-spec =
+pub strip-export-spec : {M : Type 1} → statement M
+strip-export-spec =
     tie.close
     (tie.spec
-    slice-aggregate-arg
-    arg-requires
     slice-aggregate-fill
     fill-requires
     slice-aggregate-fail
     fail-requires
     returns
-    array-share-prefix-class
-    slice-aggregate-kept-columns
     array-share-prefix-buf
+    slice-aggregate-kept-columns
     slice-aggregate-kept-columns-2
-    slice-aggregate-kept-columns-3
     kept-columns-requires
     enum-known-n
     array-share-prefix-kept
