@@ -24,10 +24,10 @@ use Rattle.rulebook.proofs.Counted.{rule-same, name-same}
 use Rattle.answers.specs.Answering.{BookSays, unlabelled, labelled}
 
 -- The same items, and the same rules in the same order.
-record SameRules {A : Type 0} (b c : Book A) : Type 0 where
-  items : b .items ≡ c .items
-  rules : b .rules ≡ c .rules
-  each : (r : ℕ) → r < b .rules → b .rule r ≡ c .rule r
+pub record SameRules {A : Type 0} (b c : Book A) : Type 0 where
+  pub items : b .items ≡ c .items
+  pub rules : b .rules ≡ c .rules
+  pub each : (r : ℕ) → r < b .rules → b .rule r ≡ c .rule r
 
 turned : {A : Type 0} {b c : Book A} → SameRules b c → SameRules c b
 turned s = record { items = sym (s .items); rules = sym (s .rules); each = λ r h. sym (s .each r (omega (arith, s .rules))) }
@@ -40,7 +40,7 @@ labelling-moved K {b} s {f} x = record {
       subst (λ (y : meant.Rule (K .Val)). Met K y f) (s .each r h′) (x .meets r h′);
 }
 
-wanted-moved : (K : Values) {b c : Book (K .Val)} → SameRules b c → {f : ℕ → K .Val} → Wanted K b f → Wanted K c f
+pub wanted-moved : (K : Values) {b c : Book (K .Val)} → SameRules b c → {f : ℕ → K .Val} → Wanted K b f → Wanted K c f
 wanted-moved K s x = record {
   labelling = labelling-moved K s (x .labelling);
   least = λ g y i d.
@@ -52,7 +52,7 @@ wanted-moved K s x = record {
 part-same : (P : Parts) (p : ℕ) {b c : Book (P .values .Val)} → SameRules b c → SameRules (inPart P p b) (inPart P p c)
 part-same P p s = record { items = s .items; rules = s .rules; each = λ r h. ap (mapRule (P .part p)) (s .each r h) }
 
-refused-moved : (P : Parts) {b c : Book (P .values .Val)} → SameRules b c → {p : ℕ} → Refused P b p → Refused P c p
+pub refused-moved : (P : Parts) {b c : Book (P .values .Val)} → SameRules b c → {p : ℕ} → Refused P b p → Refused P c p
 refused-moved P s {p} x = record {
   isPart = x .isPart;
   unmet = λ f y. x .unmet f (labelling-moved (partValues P p) (turned (part-same P p s)) y);
@@ -72,7 +72,7 @@ labels-text-same t t′ n levels marks levels′ marks′ names labels =
 
 -- Tables that are equal up to their counts have the same answer.
 module _ {t w t′ w′ : List ℕ} {n m : ℕ} (s : SameTables n m t w t′ w′) (a : Tables t n w m) where
-  rules-same : SameRules (bookOf w′ m n) (bookOf w m n)
+  pub rules-same : SameRules (bookOf w′ m n) (bookOf w m n)
   rules-same = record { items = refl; rules = refl; each = λ r h. ap meaningOf (rule-same s a r h) }
 
   pub book-moved : {x : List ℕ} → BookSays t′ n w′ m x → BookSays t n w m x

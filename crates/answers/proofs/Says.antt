@@ -61,11 +61,11 @@ module _ {t : List ℕ} {n : ℕ} {levels marks d : List ℕ} (ready : LabelsRea
     labels-never-refused e = subst (λ (y : Written). Wrote (labelsText t n levels marks) y d′) e (wrote says)
 
 -- Solving an accepted table into buffers with room: the wanted labels, or 9.
-abbrev Told : List ℕ → ℕ → ℕ → Buffers → Said → Buffers → Type 0
+abbrev pub Told : List ℕ → ℕ → ℕ → Buffers → Said → Buffers → Type 0
 Told w m n before (labelled k) after = WritesLabels w m n k before after
 Told w m n before (refused k p) after = (k ≡ 9) × Refused classParts (bookOf w m n) p
 
-told : {w : List ℕ} {m n : ℕ} {before : Buffers} → TableAccepted w m n → Room n (before .levels) (before .marks) → {s : Said} {after : Buffers} → SolveSays w m n before s after
+pub told : {w : List ℕ} {m n : ℕ} {before : Buffers} → TableAccepted w m n → Room n (before .levels) (before .marks) → {s : Said} {after : Buffers} → SolveSays w m n before s after
     → Told w m n before s after
 told ok room (bad-table x) = absurd (x .bad ok)
 told ok room (no-room x) = absurd (x .short room)

@@ -1,7 +1,7 @@
 -- What is said of a class, of a book and of a text, one law for each answer that the code can give. They rest on the promises of reading and of
 -- solving.
 -- Assumes nothing.
-use mathlib.Core.Path.{_≡_, refl, sym, ap, _∙_, subst}
+use mathlib.Core.Path.{_≡_, sym, ap, _∙_, subst}
 use mathlib.Core.Bool.{Bool}
 use mathlib.Core.List.{List}
 use Prim.Native.Nat.{ℕ}
@@ -9,25 +9,20 @@ use native.Mathlib.Omega.{arith}
 use lib.ListN.{length}
 use borrow.Author.Tests.{eq-eqb, ne-eqb}
 use Rattle.classes.specs.declared.Class.{Class}
-use Rattle.labelling.specs.Classes.{classes, classParts}
-use Rattle.labelling.specs.Labelling.{Wanted}
 use Rattle.labelling.specs.Parts.{Refused}
-use Rattle.labels.specs.Labels.{Room}
 use Rattle.rules.specs.Record.{labelsIn}
-use Rattle.rules.specs.Table.{bookOf}
 use Rattle.tokens.specs.Tokens.{classAt}
 use Rattle.tokens.specs.declared.ReadClass.{ReadClass}
 use Rattle.refusals.specs.Numbers.{faultNumber}
 use Rattle.refusals.specs.declared.Fault.{Fault}
 use Rattle.reader.specs.Reading.{ReadSays}
 use Rattle.reader.specs.declared.ReadBook.{ReadBook}
-use Rattle.solver.specs.Solving.{Said, labelled, refused, said, Buffers, held, labelsOf, SolveSays, bad-table, no-room, no-labelling}
-use Rattle.solver.specs.Solving.{writes-labels}
+use Rattle.solver.specs.Solving.{refused, said, held, SolveSays}
 use Rattle.solver.specs.declared.Solved.{Solved}
-use Rattle.accepts.specs.Accepted.{TableAccepted}
 use Rattle.writer.specs.Writing.{Tables}
 use Rattle.rulebook.proofs.RoundTrip.{read-passes}
 use Rattle.answers.specs.Answering.{readWhole}
+use Rattle.answers.proofs.Says.{Told, told}
 use Rattle.answers.proofs.WholeRoom.{answer-whole, tables-read, read-tables}
 use Rattle.columns.specs.Columns.{readerOf, wholeClass, HeaderSays, ColumnsSays, unread, unlabelled, no-class, headed}
 use Rattle.columns.specs.Inner.{ClassSays, classless, classed, LabelSays, no-labels, with-labels}
@@ -56,24 +51,13 @@ module _ {t : List ℕ} {n : ℕ} {labels : ℕ → Class} {class l : List ℕ} 
         → ClassSays t n labels class l last before r after
     class-whole h says = classed {reader = reader} (reads class p (ReadClass.Found reader len) e ∙ rw (eq-eqb len (length class) h)) says
 
--- Solving an accepted table into buffers with room: the wanted labels, or 9.
-abbrev Told : List ℕ → ℕ → ℕ → Said → Buffers → Type 0
-Told w m n (labelled k) after = Wanted classes (bookOf w m n) (labelsOf after)
-Told w m n (refused k p) after = (k ≡ 9) × Refused classParts (bookOf w m n) p
-
-told : {w : List ℕ} {m n : ℕ} {before : Buffers} → TableAccepted w m n → Room n (before .levels) (before .marks) → {s : Said} {after : Buffers}
-    → SolveSays w m n before s after → Told w m n s after
-told ok room (bad-table x) = absurd (x .bad ok)
-told ok room (no-room x) = absurd (x .short room)
-told ok room (no-labelling x) = (refl, x .unlabelled)
-told ok room (writes-labels x) = x .wanted
-
+-- Solving the tables of a book: the wanted labels, or 9.
 module _ {t : List ℕ} {n : ℕ} {w : List ℕ} {m : ℕ} (ready : Tables t n w m) {levels marks : List ℕ} (levels-room : length levels ≡ 256)
     (marks-room : length marks ≡ 256) (a : Solved) {levels′ marks′ : List ℕ}
     (says : SolveSays w m n (held levels marks) (said a) (held levels′ marks′)) where
-  told-as : {b : Solved} → a ≡ b → Told w m n (said b) (held levels′ marks′)
+  told-as : {b : Solved} → a ≡ b → Told w m n (held levels marks) (said b) (held levels′ marks′)
   told-as e =
-      subst (λ (y : Solved). Told w m n (said y) (held levels′ marks′)) e
+      subst (λ (y : Solved). Told w m n (held levels marks) (said y) (held levels′ marks′)) e
       (told (ready .rules)
       (record { forLevels = omega (arith, levels-room, ready .items .size); forMarks = omega (arith, marks-room, ready .items .size) })
       says)
@@ -81,7 +65,7 @@ module _ {t : List ℕ} {n : ℕ} {w : List ℕ} {m : ℕ} (ready : Tables t n w
   -- The wanted labels.
   pub label-class : {k : ℕ} {class l : List ℕ} {last : Bool} {before : List Bool} {r : Columns} {after : List Bool} → a ≡ Solved.Labelled k
       → ClassSays t n (labelsIn levels′ marks′) class l last before r after → LabelSays t n w m class l last before r after
-  label-class e x = with-labels levels′ marks′ (told-as e) x
+  label-class e x = with-labels levels′ marks′ (told-as e .wanted) x
 
   -- The part that is refused.
   pub label-refused : {p k : ℕ} {class l : List ℕ} {last : Bool} {before : List Bool} → a ≡ Solved.NoLabelling p

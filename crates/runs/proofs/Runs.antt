@@ -3,12 +3,12 @@
 -- Assumes nothing.
 use mathlib.Core.Path.{_≡_, refl, sym, ap, subst, _∙_}
 use mathlib.Core.Bool.{Bool, true, false}
-use mathlib.Core.List.{List, [], _∷_, _++_, append-nil}
-use Prim.Native.Nat.{ℕ, _+_, _≤_, _<_}
+use mathlib.Core.List.{List, _++_, append-nil}
+use Prim.Native.Nat.{ℕ, _+_}
 use native.Mathlib.Omega.{arith}
-use lib.ListN.{length, take}
+use lib.ListN.{take}
 use Rattle.exports.specs.Reading.{LastOnly, allOf}
-use Rattle.exports.specs.Text.{Verdict, accepted, refused, Outcome, strippedFrom}
+use Rattle.exports.specs.Text.{Verdict, accepted, Outcome, strippedFrom}
 use Rattle.exports.proofs.HeldBack.{held-back-leaves-no-trace}
 use Rattle.columns.specs.Columns.{ColumnsSays}
 use Rattle.columns.specs.declared.Columns.{Columns}

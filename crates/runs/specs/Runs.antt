@@ -9,7 +9,7 @@ use lib.ListN.{length, take}
 use Rattle.records.specs.Rows.{mostFields}
 use Rattle.exports.specs.Rows.{taken}
 use Rattle.exports.specs.Reading.{LastOnly}
-use Rattle.exports.specs.Text.{Verdict, refused, Outcome, strippedFrom, HeldBackApart}
+use Rattle.exports.specs.Text.{Verdict, refused, strippedFrom, HeldBackApart}
 use Rattle.columns.specs.Columns.{ColumnsSays}
 use Rattle.columns.specs.declared.Columns.{Columns}
 use Rattle.stripping.specs.Calls.{Calls}

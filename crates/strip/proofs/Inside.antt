@@ -1,9 +1,9 @@
 -- The answers of the routines lie within what was lent to them: the columns that are kept, the bytes that were taken and those that were written.
 -- Assumes nothing.
-use mathlib.Core.Path.{_≡_, sym, ap, subst, _∙_}
+use mathlib.Core.Path.{_≡_, sym, subst}
 use mathlib.Core.Bool.{Bool}
-use mathlib.Core.List.{List, _++_}
-use Prim.Native.Nat.{ℕ, _+_, _≤_}
+use mathlib.Core.List.{List}
+use Prim.Native.Nat.{ℕ, _≤_}
 use native.Mathlib.Omega.{arith}
 use lib.ListN.{length, take}
 use lib.Seq.{length-take-le}
