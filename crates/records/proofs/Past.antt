@@ -11,7 +11,7 @@ use lib.ListN.{length, getD, drop}
 use Rattle.scans.specs.Bytes.{byteAt}
 use Rattle.scans.proofs.Places.{byte-in, byte-inside}
 use Rattle.records.specs.Fields.{plainByte, longerBy, behind, Where, plain, quoted, scan, fieldAt}
-use Rattle.records.specs.Inner.{PlainRun, Closing, QuotedStep}
+use Rattle.records.specs.Inner.{PlainRun, QuotedRun, Closing}
 use Rattle.records.specs.declared.Field.{Field}
 use Rattle.records.proofs.Steps.{longer-longer, longer-none, plain-end, plain-on, plain-stop, quoted-end, quoted-on, quoted-quote}
 use Rattle.records.proofs.Steps.{closed-quote, closed-shut, start-quote, start-other, start-end}
@@ -68,50 +68,32 @@ module _ {l : List ℕ} {at i : ℕ} (p : Past plain l at i) where
   pub past-plain-end : length l ≤ i → PlainRun l at (i - at)
   past-plain-end h = plain-run (plain-end l i h)
 
--- Between quotes, one step: a byte, a doubled quote, the closing quote.
-module _ {l : List ℕ} {i : ℕ} (h : i < length l) where
-  pub step-byte : (getD l i 0 ≡ 34 → ⊥) → QuotedStep l i 1
-  step-byte e = record { none = λ z. absurd (omega arith); some = λ z. quoted-on l i h e; within = omega arith }
-
-  module _ (e : getD l i 0 ≡ 34) {b : ℕ} (f : b ≡ byteAt (drop (i + 1) l)) where
-    pub step-doubled : b ≡ 34 → QuotedStep l i 2
-    step-doubled g = record {
-      none = λ z. absurd (omega arith);
-      some =
-          λ z. quoted-quote l i h e
-          ∙ ap (longerBy 1) (closed-quote l (i + 1) inside (byte-in l (i + 1) ∙ sym f ∙ g))
-          ∙ longer-longer 1 1 (scan quoted (drop (i + 1 + 1) l))
-          ∙ ap (λ (k : ℕ). longerBy 2 (scan quoted (drop k l))) sum;
-      within = omega (arith, inside);
-    }
-      where
-        inside : i + 1 < length l
-        inside = byte-inside l (i + 1) (omega (arith, f))
-
-        sum : i + 1 + 1 ≡ i + 2
-        sum = omega arith
-
-    pub step-closing : (b ≡ 34 → ⊥) → QuotedStep l i 0
-    step-closing g = record {
-      none = λ z. quoted-quote l i h e ∙ ap (longerBy 1) (closed-shut (drop (i + 1) l) (λ y. g (f ∙ y)));
-      some = λ z. absurd (omega arith);
-      within = omega arith;
-    }
-
--- Between quotes, from step to step: a step further; the closing quote stands at i; the text ends before it.
+-- Between quotes, from byte to byte.
 module _ {l : List ℕ} {at i : ℕ} (p : Past quoted l at i) where
-  pub past-step : {r : ℕ} → QuotedStep l i r → (r ≡ 0 → ⊥) → Past quoted l at (i + r)
-  past-step {r} s e = past-on p r (s .within) (s .some (omega arith))
-
-  pub past-closing : {r : ℕ} → QuotedStep l i r → r ≡ 0 → i < length l → Closing l at (i + 1 - at)
-  past-closing s e h = record {
-    none = λ z. absurd (omega (arith, p .order));
-    some = λ z. past-then p 1 (behind (drop (i + 1) l)) (s .none e) ∙ ap (λ (k : ℕ). longerBy (i + 1 - at) (behind (drop k l))) sum;
-    within = omega (arith, p .order);
+  -- What is passed is the run, if a quote stands at i or the text ends there.
+  quoted-run : (i < length l → getD l i 0 ≡ 34) → QuotedRun l at (i - at)
+  quoted-run e = record {
+    scans = p .rest ∙ ap (λ (k : ℕ). longerBy (i - at) (scan quoted (drop k l))) sum;
+    within = omega (arith, p .order, p .within);
+    stops = λ h. ap (λ (k : ℕ). getD l k 0) (sym sum) ∙ e (omega (arith, sum));
   }
     where
-      sum : i + 1 ≡ at + (i + 1 - at)
+      sum : i ≡ at + (i - at)
       sum = omega (arith, p .order)
+
+  -- Another byte than a quote stands at i; a quote does; the text ends.
+  pub past-quoted-on : i < length l → (getD l i 0 ≡ 34 → ⊥) → Past quoted l at (i + 1)
+  past-quoted-on h e = past-on p 1 (omega arith) (quoted-on l i h e)
+
+  pub past-quoted-stop : getD l i 0 ≡ 34 → QuotedRun l at (i - at)
+  past-quoted-stop e = quoted-run (λ h. e)
+
+  pub past-quoted-end : length l ≤ i → QuotedRun l at (i - at)
+  past-quoted-end h = quoted-run (λ g. absurd (omega arith))
+
+  -- A run further; the text ends before a quote that closes the field.
+  pub past-run : {r : ℕ} → QuotedRun l i r → Past quoted l at (i + r)
+  past-run {r} q = past-on p r (q .within) (q .scans)
 
   pub past-never : length l ≤ i → Closing l at 0
   past-never h = record {
@@ -119,6 +101,40 @@ module _ {l : List ℕ} {at i : ℕ} (p : Past quoted l at i) where
     some = λ z. absurd (omega arith);
     within = omega (arith, p .order, p .within);
   }
+
+-- Between quotes, from quote to quote: the quote behind a run is doubled; or it closes the field.
+module _ {l : List ℕ} {at i r : ℕ} (p : Past quoted l at i) (q : QuotedRun l i r) (h : i + r < length l)
+    {b : ℕ} (f : b ≡ byteAt (drop (i + r + 1) l)) where
+  pub past-doubled : b ≡ 34 → Past quoted l at (i + r + 2)
+  past-doubled g = past-on (past-run p q) 2 (omega (arith, inside)) both
+    where
+      inside : i + r + 1 < length l
+      inside = byte-inside l (i + r + 1) (omega (arith, f))
+
+      sum : i + r + 1 + 1 ≡ i + r + 2
+      sum = omega arith
+
+      both : scan quoted (drop (i + r) l) ≡ longerBy 2 (scan quoted (drop (i + r + 2) l))
+      both =
+          quoted-quote l (i + r) h (q .stops h)
+          ∙ ap (longerBy 1) (closed-quote l (i + r + 1) inside (byte-in l (i + r + 1) ∙ sym f ∙ g))
+          ∙ longer-longer 1 1 (scan quoted (drop (i + r + 1 + 1) l))
+          ∙ ap (λ (k : ℕ). longerBy 2 (scan quoted (drop k l))) sum
+
+  pub past-closing : (b ≡ 34 → ⊥) → Closing l at (i + r + 1 - at)
+  past-closing g = record {
+    none = λ z. absurd (omega (arith, p .order));
+    some =
+        λ z. past-then (past-run p q) 1 (behind (drop (i + r + 1) l)) shut
+        ∙ ap (λ (k : ℕ). longerBy (i + r + 1 - at) (behind (drop k l))) sum;
+    within = omega (arith, p .order);
+  }
+    where
+      shut : scan quoted (drop (i + r) l) ≡ longerBy 1 (behind (drop (i + r + 1) l))
+      shut = quoted-quote l (i + r) h (q .stops h) ∙ ap (longerBy 1) (closed-shut (drop (i + r + 1) l) (λ y. g (f ∙ y)))
+
+      sum : i + r + 1 ≡ at + (i + r + 1 - at)
+      sum = omega (arith, p .order)
 
 -- The field at a place: nothing, a field without quotes, a quote with none that closes it, a field in quotes.
 module _ (l : List ℕ) (at : ℕ) where

@@ -2,8 +2,8 @@
 -- Assumes nothing.
 use mathlib.Core.Path.{_≡_}
 use mathlib.Core.List.{List, _++_}
-use Prim.Native.Nat.{ℕ, _+_, _≤_}
-use lib.ListN.{length, drop}
+use Prim.Native.Nat.{ℕ, _+_, _≤_, _<_}
+use lib.ListN.{length, getD, drop}
 use Rattle.records.specs.Fields.{plain, quoted, scan, behind, longerBy}
 use Rattle.records.specs.Rows.{Row, line, ends, cut, broken, rowOf}
 use Rattle.records.specs.declared.Field.{Field}
@@ -13,16 +13,16 @@ pub record PlainRun (l : List ℕ) (at r : ℕ) : Type 0 where
   pub scans : scan plain (drop at l) ≡ longerBy r (behind (drop (at + r) l))
   pub within : at + r ≤ length l
 
+-- r bytes behind a place between quotes it is still between quotes, and a quote or nothing stands there.
+pub record QuotedRun (l : List ℕ) (at r : ℕ) : Type 0 where
+  pub scans : scan quoted (drop at l) ≡ longerBy r (scan quoted (drop (at + r) l))
+  pub within : at + r ≤ length l
+  pub stops : at + r < length l → getD l (at + r) 0 ≡ 34
+
 -- From a place between quotes on the closing quote is the last of r bytes; or there is none, and r is 0.
 pub record Closing (l : List ℕ) (at r : ℕ) : Type 0 where
   pub none : r ≡ 0 → scan quoted (drop at l) ≡ Field.Open
   pub some : 1 ≤ r → scan quoted (drop at l) ≡ longerBy r (behind (drop (at + r) l))
-  pub within : at + r ≤ length l
-
--- How far a place between quotes is from the next one: 1 byte, or 2 for a doubled quote; or the closing quote stands here, and r is 0.
-pub record QuotedStep (l : List ℕ) (at r : ℕ) : Type 0 where
-  pub none : r ≡ 0 → scan quoted (drop at l) ≡ longerBy 1 (behind (drop (at + 1) l))
-  pub some : 1 ≤ r → scan quoted (drop at l) ≡ longerBy r (scan quoted (drop (at + r) l))
   pub within : at + r ≤ length l
 
 -- The fields that stand before the place i of a text, k bytes with their commas, and the row from there on.

@@ -3,11 +3,11 @@
 // Every function takes any place and any bytes. Past a text's end there is nothing.
 use scans::byte_at;
 ghost use mathlib.Core.Path.{_≡_};
-ghost use Prim.Native.Nat.{_+_, _≤_, _<_};
+ghost use Prim.Native.Nat.{_+_, _≤_};
 ghost use lib.ListN.{length, drop};
 ghost use Rattle.records.specs.Fields.{plainByte, behind, longerBy, fieldAt};
 ghost use Rattle.records.specs.Rows.{sizeOf, recordAt, mostFields, closedSize, unfinishedSize, endedBy};
-ghost use Rattle.records.specs.Inner.{PlainRun, Closing, QuotedStep};
+ghost use Rattle.records.specs.Inner.{PlainRun, QuotedRun, Closing};
 
 // The most bytes of a record before its line end.
 pub const MOST_BYTES: usize = 4096;
@@ -169,22 +169,29 @@ fn closing(text: &[u8], at: usize) -> usize
 {
     let mut i = at;
     while i < text.len() {
-        let step = quoted_step(text, i);
-        if step == 0 {
-            return i + 1 - at;
+        let quote = i + quoted_run(text, i);
+        if text.len() <= quote {
+            return 0;
         }
-        i += step;
+        if byte_at(text, quote + 1) != b'"' {
+            return quote + 1 - at;
+        }
+        i = quote + 2;
     }
     0
 }
 
-// How far it is from a place between quotes to the next one: a byte, or a doubled quote; 0 where the closing quote stands here.
-fn quoted_step(text: &[u8], at: usize) -> usize
-    requires { ⌜ at < length (now text) ⌝ }
-    ensures { λ r. ⌜ QuotedStep (now (text .entry)) at r ⌝ }
+// How many bytes from a place on are no quotes, one after the other.
+fn quoted_run(text: &[u8], at: usize) -> usize
+    requires { ⌜ at ≤ length (now text) ⌝ }
+    ensures { λ r. ⌜ QuotedRun (now (text .entry)) at r ⌝ }
 {
-    if text[at] != b'"' {
-        return 1;
+    let mut i = at;
+    while i < text.len() {
+        if text[i] == b'"' {
+            return i - at;
+        }
+        i += 1;
     }
-    if byte_at(text, at + 1) == b'"' { 2 } else { 0 }
+    i - at
 }
