@@ -55,14 +55,17 @@ class Program:
         os.chmod(path, 0o644)
         return path
 
-    def run(self, words, pieces):
+    def run(self, words, pieces, folder=False):
         """The status, and what is written on standard output and on standard error. Each of the pieces comes to the program through a pipe
-        when it has read all before."""
+        when it has read all before; or standard input is a folder, which cannot be read."""
         for file in (self.output, self.error):
             file.seek(0)
             file.truncate()
         source, pipe = os.pipe()
         os.set_blocking(pipe, False)
+        if folder:
+            os.close(source)
+            source = os.open(self.room, os.O_RDONLY)
         try:
             process = subprocess.Popen(self.command + words, stdin=source, stdout=self.output, stderr=self.error, cwd=self.room, env=self.env)
         finally:

@@ -108,7 +108,7 @@ def check_cases():
     texts, all_cases = cases.read_cases()
     passed = failed = 0
     for case in all_cases:
-        if case.words != "BOOK CLASS":
+        if case.words != "BOOK CLASS" or case.folder:
             continue
         wrote = answer(texts[case.text["book"]], case.bytes("class"), case.bytes("export"))
         if wrote == (case.bytes("output"), case.bytes("error")):

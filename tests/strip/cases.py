@@ -37,12 +37,14 @@ def taken(text, at, turn):
 
 class Case:
     def __init__(self, name, default):
-        self.name, self.words = name, "BOOK CLASS"
+        self.name, self.words, self.folder = name, "BOOK CLASS", False
         self.text = dict(default, export="", output="", error="")
 
     def take(self, key, value):
         if key == "words":
             self.words = value
+        elif key == "folder":
+            self.folder = True
         elif key in ("book", "class"):
             self.text[key] = value
         else:
