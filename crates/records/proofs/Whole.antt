@@ -1,12 +1,14 @@
--- What a whole record says: its bytes stand within the text, it has some if the text has, and it has a field. It rests on the same of a field.
+-- What a record says of its text: the bytes of a whole one stand within it, it has some if the text has, and it has a field; a text that ends before
+-- its record does is short. It rests on where a field lies.
 -- Assumes nothing.
 use mathlib.Core.Path.{_≡_, refl, subst}
 use mathlib.Core.Bool.{Bool, true, false, cond}
 use mathlib.Core.List.{List}
-use Prim.Native.Nat.{ℕ, zero, suc, _+_, _≤_}
+use Prim.Native.Nat.{ℕ, zero, suc, _+_, _≤_, _<_}
 use native.Mathlib.Omega.{arith}
 use lib.Dec.{leb, ltb}
 use lib.ListN.{length, take, drop, length-drop}
+use borrow.Author.Tests.{ltb-true}
 use Rattle.records.specs.Fields.{fieldAt}
 use Rattle.records.specs.Rows.{Row, line, ends, cut, broken, before, rowFrom, rowOf}
 use Rattle.records.specs.Rows.{Record, whole, more, bad, judged, recordAt, mostBytes}
@@ -52,7 +54,7 @@ pub record WholeHere (l : List ℕ) (fs : List (List ℕ)) (k : ℕ) : Type 0 wh
 -- What a record says of the text.
 abbrev Says : List ℕ → Record → Type 0
 Says l (whole fs k) = WholeHere l fs k
-Says l more = Unit {0}
+Says l more = length l < mostBytes + 2
 Says l bad = Unit {0}
 
 -- What a test of the length chooses.
@@ -60,9 +62,9 @@ says-closed : (t : Bool) (l : List ℕ) (fs : List (List ℕ)) (k : ℕ) → Who
 says-closed true l fs k h = h
 says-closed false l fs k h = tt
 
-says-unfinished : (t : Bool) (l : List ℕ) → Says l (cond t more bad)
-says-unfinished true l = tt
-says-unfinished false l = tt
+says-unfinished : (t : Bool) (l : List ℕ) → ltb (length l) (mostBytes + 2) ≡ t → Says l (cond t more bad)
+says-unfinished true l e = ltb-true (length l) (mostBytes + 2) e
+says-unfinished false l e = tt
 
 -- What a row says, it says as a record.
 judged-says : (last : Bool) (l : List ℕ) (r : Row) → RowLies (length l) r → Says l (judged last (length l) r)
@@ -70,12 +72,17 @@ judged-says last l (line fs k) h =
     says-closed (leb k mostBytes) l fs (k + 2) (record { within = h .0; some = λ i. omega arith; fields = h .1 })
 judged-says true l (ends fs k) h =
     says-closed (leb k mostBytes) l fs (k + 0) (record { within = omega (arith, h .0); some = λ i. omega (arith, h .0); fields = h .1 })
-judged-says false l (ends fs k) h = says-unfinished (ltb (length l) (mostBytes + 2)) l
+judged-says false l (ends fs k) h = says-unfinished (ltb (length l) (mostBytes + 2)) l refl
 judged-says true l cut h = tt
-judged-says false l cut h = says-unfinished (ltb (length l) (mostBytes + 2)) l
+judged-says false l cut h = says-unfinished (ltb (length l) (mostBytes + 2)) l refl
 judged-says last l broken h = tt
 
 -- A record that is whole is there.
 pub whole-here : (last : Bool) (most : ℕ) (l : List ℕ) {fs : List (List ℕ)} {k : ℕ} → recordAt last most l ≡ whole fs k → WholeHere l fs k
 unfolding recordAt
 whole-here last most l e = subst (Says l) e (judged-says last l (rowOf most l) (row-lies most l))
+
+-- A text that ends before its record does is short.
+pub more-short : (last : Bool) (most : ℕ) (l : List ℕ) → recordAt last most l ≡ more → length l < mostBytes + 2
+unfolding recordAt
+more-short last most l e = subst (Says l) e (judged-says last l (rowOf most l) (row-lies most l))

@@ -3,14 +3,16 @@
 -- Assumes nothing.
 use mathlib.Core.Path.{_≡_, refl, sym, ap, subst, _∙_}
 use mathlib.Core.Bool.{Bool, true, false}
-use mathlib.Core.List.{List, _++_, append-nil}
-use Prim.Native.Nat.{ℕ, _+_}
+use mathlib.Core.List.{List, [], _∷_, _++_, append-nil}
+use Prim.Native.Nat.{ℕ, _+_, _<_}
 use native.Mathlib.Omega.{arith}
-use lib.ListN.{take}
+use lib.ListN.{length, take}
+use Rattle.records.specs.Rows.{more, mostBytes, mostFields}
+use Rattle.records.proofs.Whole.{more-short as record-short}
 use Rattle.exports.specs.Reading.{LastOnly, allOf}
 use Rattle.exports.specs.Text.{Verdict, accepted, Outcome, strippedFrom}
 use Rattle.exports.proofs.HeldBack.{held-back-leaves-no-trace}
-use Rattle.columns.specs.Columns.{ColumnsSays}
+use Rattle.columns.specs.Columns.{headerAt, more-header, ColumnsSays, headed}
 use Rattle.columns.specs.declared.Columns.{Columns}
 use Rattle.columns.proofs.Unique.{Same, columns-unique}
 use Rattle.columns.proofs.Pieces.{columns-stay}
@@ -26,6 +28,10 @@ whole-says {book} {class} {first} {rest} {before} {r} {after} true only p h =
     (sym (ap (λ (ps : List (List ℕ)). first ++ allOf ps) (only .none refl) ∙ append-nil first)) p
 whole-says {first = first} {rest} false only p h = columns-stay true first (allOf rest) p h
 
+header-short : (last : Bool) (l : List ℕ) → headerAt last l ≡ more → length l < mostBytes + 2
+header-short last [] e = omega arith
+header-short last (b ∷ l) e = record-short last mostFields (b ∷ l) e
+
 -- However an export is cut, a run leaves what is left of the whole.
 pub runs-leave : {before : List Bool} {book class : List ℕ} {pieces : List (List ℕ)} {text : List ℕ} {v : Verdict} → Runs before book class pieces text v
     → LeftOf before book class (allOf pieces) text v
@@ -34,6 +40,11 @@ runs-leave (refuses last only room p) = refused-first room (whole-says last only
 runs-leave (strips {after = after} {n} last only p calls) =
     stripped (record { after = after; columns = n; says = whole-says last only p (λ e. let z : _≡_ {A = ℕ} 0 1 = cc in omega arith); is = refl })
     (calls-strip calls)
+
+-- A piece that is as long as the program reads holds the whole header, so that more is never asked for.
+pub more-short : {book class l : List ℕ} {last : Bool} {before after : List Bool} → ColumnsSays book class l last before Columns.More after
+    → length l < mostBytes + 2
+more-short (headed levels marks e x y (more-header h)) = header-short _ _ h
 
 -- The columns that are kept are the same whenever they are asked for.
 pub kept-unique : {before : List Bool} {book class export : List ℕ} {k m : List Bool} → KeptIn before book class export k → KeptIn before book class export m
