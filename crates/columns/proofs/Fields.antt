@@ -9,12 +9,12 @@ use native.Mathlib.Omega.{arith}
 use lib.Dec.{leb, ltb}
 use lib.ListN.{length, take, drop}
 use borrow.Author.Tests.{leb-true}
-use Rattle.records.specs.Fields.{fieldAt}
+use Rattle.records.specs.Fields.{fieldLen, fieldAt}
 use Rattle.records.specs.Rows.{Row, line, ends, cut, broken, before, rowFrom, rowOf}
 use Rattle.records.specs.Rows.{Record, whole, more, bad, judged, recordAt, mostBytes}
 use Rattle.records.specs.declared.Field.{Field}
 use Rattle.records.proofs.Within.{comma-within}
-use Rattle.columns.specs.Inner.{fieldLen, fieldsOf, bytesOf}
+use Rattle.columns.specs.Inner.{fieldsOf, bytesOf}
 
 head : List (List ℕ) → List ℕ
 head [] = []

@@ -21,11 +21,11 @@ use Rattle.items.specs.declared.Found.{Found}
 use Rattle.items.proofs.Found as found
 use Rattle.reader.specs.Names.{isItem}
 use Rattle.reader.proofs.LookUps.{not-item}
-use Rattle.records.specs.Fields.{fieldAt}
+use Rattle.records.specs.Fields.{fieldLen, fieldAt}
 use Rattle.records.specs.Rows.{rowOf, mostBytes, mostFields}
 use Rattle.records.specs.declared.Field.{Field}
 use Rattle.exports.specs.Names.{unquoted, nameIn, columnItem}
-use Rattle.columns.specs.Inner.{fieldLen, fieldsOf, bytesOf, fieldsIn, FieldHere, Holds, LookReady, LooksUp}
+use Rattle.columns.specs.Inner.{fieldsOf, bytesOf, fieldsIn, FieldHere, Holds, LookReady, LooksUp}
 use Rattle.columns.proofs.SameName.{found-same}
 use Rattle.columns.proofs.Fields.{Next, next-field}
 

@@ -12,13 +12,13 @@ use lib.ListN.{length, getD, take, drop, length-drop}
 use borrow.Author.Tests.{ne-eqb}
 use Rattle.items.specs.Names.{nameRoom, nameByte, nameBytes, isName}
 use Rattle.items.specs.Lookup.{findIn}
-use Rattle.records.specs.Fields.{comma, cr, lf, longerBy, afterCr, behind, Where, start, plain, quoted, closed, scan, fieldAt}
+use Rattle.records.specs.Fields.{fieldLen, comma, cr, lf, longerBy, afterCr, behind, Where, start, plain, quoted, closed, scan, fieldAt}
 use Rattle.records.specs.declared.Field.{Field}
 use Rattle.records.proofs.Steps.{start-quote}
 use Rattle.records.proofs.Within.{comma-within, line-within, end-within}
 use Rattle.scans.proofs.Places.{drop-step}
 use Rattle.exports.specs.Names.{undoubled, unquoted}
-use Rattle.columns.specs.Inner.{fieldLen, FieldHere, Quoted}
+use Rattle.columns.specs.Inner.{FieldHere, Quoted}
 
 -- Two texts that are looked up alike: they are equal, or neither is a name.
 data Alike (x y : List ℕ) : Type 0 where

@@ -14,21 +14,12 @@ use Rattle.labelling.specs.Parts.{Refused}
 use Rattle.items.specs.declared.Found.{Found}
 use Rattle.rules.specs.Record.{labelsIn}
 use Rattle.rules.specs.Table.{bookOf}
-use Rattle.records.specs.Fields.{quote, fieldAt}
+use Rattle.records.specs.Fields.{fieldLen, quote, fieldAt}
 use Rattle.records.specs.Rows.{Row, line, ends, cut, broken, rowOf, whole, more, bad, mostBytes, mostFields}
-use Rattle.records.specs.declared.Field.{Field}
 use Rattle.exports.specs.Names.{columnItem, HeaderOk}
 use Rattle.exports.specs.Text.{csvSyntax, csvHeader}
 use Rattle.columns.specs.Columns.{readerOf, known, unknown, headerAt, HeaderSays}
 use Rattle.columns.specs.declared.Columns.{Columns}
-
--- How many bytes a field has, 0 where it is none.
-abbrev pub fieldLen : Field → ℕ
-fieldLen (Field.Comma n) = n
-fieldLen (Field.Line n) = n
-fieldLen (Field.End n) = n
-fieldLen Field.Open = 0
-fieldLen Field.Bad = 0
 
 -- The fields of a row, none where it is no whole one.
 abbrev pub fieldsOf : Row → List (List ℕ)

@@ -3,8 +3,10 @@ use crate::Columns;
 use classes::Class;
 use items::Found;
 use items::find;
-use records::Field;
+use records::CSV_HEADER;
+use records::CSV_SYNTAX;
 use records::Size;
+use records::field_len;
 use records::first_record;
 use records::read_field;
 use refusals::Fault;
@@ -18,12 +20,7 @@ ghost use Rattle.items.specs.Lookup.{findIn};
 ghost use Rattle.rules.specs.Record.{labelsIn};
 ghost use Rattle.exports.specs.Names.{unquoted};
 ghost use Rattle.columns.specs.Columns.{HeaderSays};
-ghost use Rattle.columns.specs.Inner.{fieldLen, fieldsIn, FieldHere, Quoted, Holds, LookReady, LooksUp, nothingAt, NamesSay, HeadSays, Room, CoverReady, Covering, KeepSays};
-
-// What a bad record and a bad header are refused with.
-const CSV_SYNTAX: u64 = 16;
-
-const CSV_HEADER: u64 = 17;
+ghost use Rattle.columns.specs.Inner.{fieldsIn, FieldHere, Quoted, Holds, LookReady, LooksUp, nothingAt, NamesSay, HeadSays, Room, CoverReady, Covering, KeepSays};
 
 // The columns of an export by the header at its front, for items with these names and labels.
 pub(crate) fn by_header(
@@ -92,7 +89,7 @@ fn look_up(items: &[u8], n: usize, export: &[u8], fields: usize, numbers: &mut [
     let mut at = 0;
     let mut c = 0;
     while c < fields {
-        let len = length_of(read_field(export, at));
+        let len = field_len(read_field(export, at));
         let Found::At(i) = item_at(items, n, export, at, len) else {
             return false;
         };
@@ -104,19 +101,6 @@ fn look_up(items: &[u8], n: usize, export: &[u8], fields: usize, numbers: &mut [
         c += 1;
     }
     true
-}
-
-// How many bytes a field has.
-fn length_of(found: Field) -> usize
-    ensures { λ r. ⌜ r ≡ fieldLen found ⌝ }
-{
-    match found {
-        Field::Comma(len) => len,
-        Field::Line(len) => len,
-        Field::End(len) => len,
-        Field::Open => 0,
-        Field::Bad => 0,
-    }
 }
 
 // The item that a field names, its outer quotes off. A doubled quote stays as it is: no name has a quote, single or doubled.

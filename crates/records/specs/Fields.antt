@@ -63,3 +63,11 @@ scan closed (b ∷ l) = cond (eqb b quote) (longerBy 1 (scan quoted l)) (behind 
 -- The field at the front.
 abbrev pub fieldAt : List ℕ → Field
 fieldAt l = scan start l
+
+-- Its bytes; none where it is no field.
+abbrev pub fieldLen : Field → ℕ
+fieldLen (Field.Comma n) = n
+fieldLen (Field.Line n) = n
+fieldLen (Field.End n) = n
+fieldLen Field.Open = 0
+fieldLen Field.Bad = 0

@@ -5,7 +5,7 @@ use scans::byte_at;
 ghost use mathlib.Core.Path.{_≡_};
 ghost use Prim.Native.Nat.{_+_, _≤_};
 ghost use lib.ListN.{length, drop};
-ghost use Rattle.records.specs.Fields.{plainByte, behind, longerBy, fieldAt};
+ghost use Rattle.records.specs.Fields.{plainByte, behind, longerBy, fieldAt, fieldLen};
 ghost use Rattle.records.specs.Rows.{sizeOf, recordAt, mostFields, closedSize, unfinishedSize, endedBy};
 ghost use Rattle.records.specs.Inner.{PlainRun, QuotedRun, Closing};
 
@@ -14,6 +14,11 @@ pub const MOST_BYTES: usize = 4096;
 
 // The most fields of a record.
 pub const MOST_FIELDS: usize = 256;
+
+// The numbers of refusal for a bad record and for a bad header.
+pub const CSV_SYNTAX: u64 = 16;
+
+pub const CSV_HEADER: u64 = 17;
 
 // What stands behind a field, and the field's bytes, its quotes among them: a comma; a CRLF; nothing. Open where the text ends between the
 // field's quotes or after the CR of its CRLF; Bad where it is no field of RFC 4180 with one of these behind it.
@@ -47,6 +52,19 @@ pub fn read_field(text: &[u8], at: usize) -> Field
         return Field::Open;
     }
     behind_field(text, at, 1 + len)
+}
+
+// How many bytes a field has; 0 where it is none.
+pub fn field_len(found: Field) -> usize
+    ensures { λ r. ⌜ r ≡ fieldLen found ⌝ }
+{
+    match found {
+        Field::Comma(len) => len,
+        Field::Line(len) => len,
+        Field::End(len) => len,
+        Field::Open => 0,
+        Field::Bad => 0,
+    }
 }
 
 // The size of the record at the front of a text. Nothing follows the text if it is the last one.

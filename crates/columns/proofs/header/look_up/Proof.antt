@@ -20,13 +20,13 @@ loop-holds c = look-none (c .before .before .before .pre)
 read-field-requires : tie.Need-read-field-requires Inv-loop μ-loop
 read-field-requires c κs = search needs
 
-length-of-requires : tie.Need-length-of-requires Inv-loop μ-loop
-length-of-requires c κs = search needs
+field-len-requires : tie.Need-field-len-requires Inv-loop μ-loop
+field-len-requires c κs = search needs
 
 item-at-requires : tie.Need-item-at-requires Inv-loop μ-loop
 item-at-requires c κs =
     look-here (c .before .before .before .loop .inv) (c .before .before .before .before .before .before .before .pre)
-    (c .before .before .loop-test .taken) (c .before .read-field .ensures) (c .length-of .ensures)
+    (c .before .before .loop-test .taken) (c .before .read-field .ensures) (c .field-len .ensures)
 
 enum-known-i : tie.Need-enum-known-i Inv-loop μ-loop
 enum-known-i c = search needs
@@ -38,7 +38,7 @@ returns : tie.Need-returns Inv-loop μ-loop
 returns c =
     look-absent (c .before .before .before .before .before .loop .inv)
     (c .before .before .before .before .before .before .before .before .before .pre) (c .before .before .before .before .loop-test .taken)
-    (c .before .before .before .read-field .ensures) (c .before .before .length-of .ensures) (c .before .item-at .ensures) (c .match .keys2)
+    (c .before .before .before .read-field .ensures) (c .before .before .field-len .ensures) (c .before .item-at .ensures) (c .match .keys2)
 
 holds-requires : tie.Need-holds-requires Inv-loop μ-loop
 holds-requires c κs =
@@ -55,7 +55,7 @@ returns-2 c =
     (c .before .before .before .before .before .before .before .before .before .before .before .before .before .before .pre)
     (c .before .before .before .before .before .before .before .before .before .loop-test .taken)
     (c .before .before .before .before .before .before .before .before .read-field .ensures)
-    (c .before .before .before .before .before .before .before .length-of .ensures)
+    (c .before .before .before .before .before .before .before .field-len .ensures)
     (c .before .before .before .before .before .before .item-at .ensures) (c .before .before .before .before .i .given .1)
     (c .before .holds .ensures .holds (c .if1 .taken))
 
@@ -74,7 +74,7 @@ add-at c =
     (c .before .before .before .before .before .before .before .before .before .before .before .before .before .before .pre)
     (c .before .before .before .before .before .before .before .before .before .loop-test .taken)
     (c .before .before .before .before .before .before .before .before .read-field .ensures)
-    (c .before .before .before .before .before .before .before .length-of .ensures)
+    (c .before .before .before .before .before .before .before .field-len .ensures)
 
 add-at-2 : tie.Need-add-at-2 Inv-loop μ-loop
 add-at-2 c =
@@ -82,7 +82,7 @@ add-at-2 c =
     (c .before .before .before .before .before .before .before .before .before .before .before .before .before .before .pre)
     (c .before .before .before .before .before .before .before .before .before .loop-test .taken)
     (c .before .before .before .before .before .before .before .before .read-field .ensures)
-    (c .before .before .before .before .before .before .before .length-of .ensures)
+    (c .before .before .before .before .before .before .before .field-len .ensures)
 
 add-c : tie.Need-add-c Inv-loop μ-loop
 add-c c = search needs
@@ -96,7 +96,7 @@ loop-again c =
     (c .before .before .before .before .before .before .before .before .before .before .before .before .before .before .pre)
     (c .before .before .before .before .before .before .before .before .before .loop-test .taken)
     (c .before .before .before .before .before .before .before .before .read-field .ensures)
-    (c .before .before .before .before .before .before .before .length-of .ensures)
+    (c .before .before .before .before .before .before .before .field-len .ensures)
     (c .before .before .before .before .before .before .item-at .ensures) (c .before .before .before .before .i .given .1)
     (c .before .holds .ensures .fails (c .if1 .left))
 
@@ -114,7 +114,7 @@ look-up-spec =
     μ-loop
     loop-holds
     read-field-requires
-    length-of-requires
+    field-len-requires
     item-at-requires
     enum-known-i
     same-length
