@@ -37,11 +37,13 @@ no-whole s h c u e = other (subst (λ (g : Size). OneOf (1 ∷ 2 ∷ []) (enum.D
     other (inr d) = omega arith
 
 -- A record that is not whole.
-not-whole-row : (l : List ℕ) (at : ℕ) (last : Bool) (columns : ℕ) (ends : List ℕ) (x : Record) (s : Size) → recordAt last columns (drop at l) ≡ x
-    → s ≡ sizeOf x → ((c u : ℕ) → s ≡ Size.Whole c u → ⊥) → RowRead l at last columns s ends
+not-whole-row : (l : List ℕ) (at : ℕ) (last : Bool) (columns : ℕ) (ends : List ℕ) (x : Record) (s : Size)
+    → recordAt last columns (drop at l) ≡ x → s ≡ sizeOf x → ((c u : ℕ) → s ≡ Size.Whole c u → ⊥) → RowRead l at last columns s ends
 not-whole-row l at last columns ends (whole fs k) s e g h = absurd (h (length fs) k g)
-not-whole-row l at last columns ends more s e g h = subst (λ (t : Size). RowRead l at last columns t ends) (sym g) (is-more (ap (fitting columns) e))
-not-whole-row l at last columns ends bad s e g h = subst (λ (t : Size). RowRead l at last columns t ends) (sym g) (is-bad (ap (fitting columns) e))
+not-whole-row l at last columns ends more s e g h =
+    subst (λ (t : Size). RowRead l at last columns t ends) (sym g) (is-more (ap (fitting columns) e))
+not-whole-row l at last columns ends bad s e g h =
+    subst (λ (t : Size). RowRead l at last columns t ends) (sym g) (is-bad (ap (fitting columns) e))
 
 -- A whole record that ends with this field: its bytes are those before the line end, or it is the end of the text.
 record LastIs (last : Bool) (most : ℕ) (l : List ℕ) (fs : List (List ℕ)) (k n c u : ℕ) : Type 0 where
@@ -68,7 +70,8 @@ last-is {l = l} {fs} {k} p last (Field.Line n) e g = record {
 last-is {l = l} {fs} {k} p true (Field.End n) e g = record {
   ended = come-end p true e refl g;
   least = omega (arith, whole-size (leb (k + n) mostBytes) (length fs + 1) (k + n + 0) g);
-  line = λ h. omega (arith, whole-size (leb (k + n) mostBytes) (length fs + 1) (k + n + 0) g, end-within (drop k l) e, length-drop k l, p .within);
+  line = λ h.
+      omega (arith, whole-size (leb (k + n) mostBytes) (length fs + 1) (k + n + 0) g, end-within (drop k l) e, length-drop k l, p .within);
 }
 last-is {l = l} p false (Field.End n) e g = absurd (not-more (ltb (length l) (mostBytes + 2)) g)
 last-is p true Field.Open e g = let z : _≡_ {A = ℕ} 0 1 = cc in absurd (omega arith)
@@ -96,12 +99,14 @@ module _ {l : List ℕ} {at columns : ℕ} {ends : List ℕ} {f : Field} {i c : 
   come : Come columns (drop at l) (fieldsTo l at ends c) (p .reading .bytes) (suc (p .reading .left - 1))
   come =
       subst (Come columns (drop at l) (fieldsTo l at ends c) (p .reading .bytes))
-      (let one : p .reading .left ≡ suc (p .reading .left - 1) = omega (arith, p .reading .come .count, count, p .here) in one) (p .reading .come)
+      (let one : p .reading .left ≡ suc (p .reading .left - 1) = omega (arith, p .reading .come .count, count, p .here) in one)
+      (p .reading .come)
 
   -- It is not whole.
   pub last-none : OneOf (1 ∷ 2 ∷ []) (enum.Declared.tagOf size.the-type s) → RowRead l at last columns s ends
   last-none o =
-      not-whole-row l at last columns ends (recordAt last columns (drop at l)) s refl (sized ∙ sym (come-ended come last f here (p .other))) (no-whole s o)
+      not-whole-row l at last columns ends (recordAt last columns (drop at l)) s refl
+      (sized ∙ sym (come-ended come last f here (p .other))) (no-whole s o)
 
   module _ {fields used : ℕ} (g : s ≡ Size.Whole fields used) where
     is : LastIs last columns (drop at l) (fieldsTo l at ends c) (p .reading .bytes) (lengthOf f) fields used

@@ -1,5 +1,5 @@
--- Why `stripping` is right: a record found by the ends of its fields, lines put into a buffer, record by record, and that any two results of its
--- promise are equal.
+-- Why `stripping` is right: a record found by the ends of its fields, lines put into a buffer, record by record, and that any two results of
+-- its promise are equal.
 pub mod Making
 pub mod Ends
 pub mod Reading

@@ -2,12 +2,10 @@
 -- Assumes nothing.
 use mathlib.Core.Path.{_≡_, refl, sym, ap, subst, _∙_}
 use mathlib.Core.Bool.{Bool, true, false, not}
-use mathlib.Core.List.{List, [], _∷_, _++_, append-assoc, append-nil}
+use mathlib.Core.List.{List, [], _∷_, _++_}
 use Prim.Native.Nat.{ℕ, _+_, _-_, _^_, _≤_, _<_, zero-le}
-use native.Mathlib.Nat.{add-zero, add-assoc}
-use native.Mathlib.Numerals.{add-one}
+use native.Mathlib.Nat.{add-zero}
 use native.Mathlib.Omega.{arith}
-use lib.Dec.{ltb}
 use lib.ListN.{length, take, drop, set, length-append, length-drop}
 use lib.Seq.{take-take, length-take-le, take-at, drop-at, drop-drop}
 use mir.Syntax.{w64}
@@ -52,8 +50,8 @@ pub keeps-none : (l : List ℕ) (at len : ℕ) (kept : Bool) (d : List ℕ) (to 
 keeps-none l at len true d to h ready = let z : _≡_ {A = ℕ} 0 1 = cc in absurd (omega arith)
 keeps-none l at len false d to h ready = record { made = made-none d to (omega (arith, ready .room)); next = sym (add-zero to) }
 
-pub keeps-put : (l : List ℕ) (at len : ℕ) (kept : Bool) (d : List ℕ) (to : ℕ) {x d₁ : List ℕ} {r : ℕ} → not kept ≡ false → KeepReady l at len d to
-    → x ≡ take len (drop at l) → Put d to x d₁ r → Keeps l at len kept d to (r + 1) (set d₁ r 44)
+pub keeps-put : (l : List ℕ) (at len : ℕ) (kept : Bool) (d : List ℕ) (to : ℕ) {x d₁ : List ℕ} {r : ℕ} → not kept ≡ false
+    → KeepReady l at len d to → x ≡ take len (drop at l) → Put d to x d₁ r → Keeps l at len kept d to (r + 1) (set d₁ r 44)
 keeps-put l at len false d to h ready e p = let z : _≡_ {A = ℕ} 0 1 = cc in absurd (omega arith)
 keeps-put l at len true d to {x} {d₁} {r} h ready e p = record {
   made =
@@ -75,8 +73,8 @@ keeps-put l at len true d to {x} {d₁} {r} h ready e p = record {
     size = made-size (put-made p fits)
 
 -- There is room for the comma.
-module _ (l : List ℕ) (at len : ℕ) (d : List ℕ) (to : ℕ) {x d₁ : List ℕ} {r : ℕ} (ready : KeepReady l at len d to) (e : x ≡ take len (drop at l))
-    (p : Put d to x d₁ r) where
+module _ (l : List ℕ) (at len : ℕ) (d : List ℕ) (to : ℕ) {x d₁ : List ℕ} {r : ℕ} (ready : KeepReady l at len d to)
+    (e : x ≡ take len (drop at l)) (p : Put d to x d₁ r) where
   long : length x ≡ len
   long = ap length e ∙ length-take-le len (drop at l) (omega (arith, length-drop at l, ready .inside))
 
@@ -90,7 +88,8 @@ module _ (l : List ℕ) (at len : ℕ) (d : List ℕ) (to : ℕ) {x d₁ : List 
   comma-fits h = record { fits = omega (arith, put-next p fits, ready .room, long) }
 
 -- The line end behind what was made, over the comma behind the last field or at the place itself.
-pub ends-over : (d : List ℕ) (to n : ℕ) {d′ : List ℕ} {r : ℕ} → EndReady d to n → to < n → Put d (n - 1) (13 ∷ 10 ∷ []) d′ r → EndsLine d to n r d′
+pub ends-over : (d : List ℕ) (to n : ℕ) {d′ : List ℕ} {r : ℕ} → EndReady d to n → to < n → Put d (n - 1) (13 ∷ 10 ∷ []) d′ r
+    → EndsLine d to n r d′
 ends-over d to n ready h p = record {
   made = rw (lt-ltb to n h) (put-made p (omega (arith, h, ready .over-comma h)));
   next = rw (lt-ltb to n h) (put-next p (omega (arith, h, ready .over-comma h)));
@@ -119,15 +118,20 @@ over-again d at y z h g =
     rest : drop (at + length z) (over d at y) ≡ drop (at + length z) d
     rest =
         ap (λ (k : ℕ). drop k (over d at y)) far ∙ sym (drop-drop (length z - length y) (at + length y) (over d at y))
-        ∙ ap (drop (length z - length y)) (sym (drop-drop (length y) at (over d at y)) ∙ ap (drop (length y)) (drop-over d at y room) ∙ drop-at y (drop (at + length y) d) (length y) refl)
+        ∙ ap (drop (length z - length y)) behind
         ∙ drop-drop (length z - length y) (at + length y) d ∙ ap (λ (k : ℕ). drop k d) (sym far)
       where
+        behind : drop (at + length y) (over d at y) ≡ drop (at + length y) d
+        behind =
+            sym (drop-drop (length y) at (over d at y)) ∙ ap (drop (length y)) (drop-over d at y room)
+            ∙ drop-at y (drop (at + length y) d) (length y) refl
+
         far : at + length z ≡ at + length y + (length z - length y)
         far = omega arith
 
 -- One text over the end of another that is no longer.
-pub made-over : {d : List ℕ} {to : ℕ} (x y : List ℕ) {d₁ z d₂ : List ℕ} → length y ≤ length z → Made d to (x ++ y) d₁ → Made d₁ (to + length x) z d₂
-    → Made d to (x ++ z) d₂
+pub made-over : {d : List ℕ} {to : ℕ} (x y : List ℕ) {d₁ z d₂ : List ℕ} → length y ≤ length z → Made d to (x ++ y) d₁
+    → Made d₁ (to + length x) z d₂ → Made d to (x ++ z) d₂
 made-over {d} {to} x y {d₁} {z} {d₂} h p q = record {
   buffer =
       q .buffer ∙ ap (λ (b : List ℕ). over b (to + length x) z) (p .buffer ∙ sym (over-over d to x first y))

@@ -1,5 +1,5 @@
--- The line of a record put field by field: the start, a field further, and the line end. It rests on the laws of fields by their ends and of what is
--- made in a buffer.
+-- The line of a record put field by field: the start, a field further, and the line end. It rests on the laws of fields by their ends and
+-- of what is made in a buffer.
 -- Assumes nothing.
 use mathlib.Core.Path.{_≡_, refl, sym, ap, subst, _∙_}
 use mathlib.Core.Bool.{Bool, true, false, cond}

@@ -48,7 +48,8 @@ row-starts {l} {at} {columns} {ends} ready = record {
 }
 
 -- The text from the place on.
-pub rest-is : {l : List ℕ} {at columns : ℕ} {ends : List ℕ} {i c : ℕ} (p : Reading l at columns ends i c) → drop (p .bytes) (drop at l) ≡ drop i l
+pub rest-is : {l : List ℕ} {at columns : ℕ} {ends : List ℕ} {i c : ℕ} (p : Reading l at columns ends i c)
+    → drop (p .bytes) (drop at l) ≡ drop i l
 rest-is {l} {at} p = drop-drop (p .bytes) at l ∙ ap (λ (k : ℕ). drop k l) (sym (p .place))
 
 module _ {l : List ℕ} {at columns : ℕ} {ends₀ ends : List ℕ} {i c : ℕ} (p : RowAt l at columns ends₀ ends i c) where
@@ -106,7 +107,8 @@ module _ {l : List ℕ} {at columns : ℕ} {ends₀ ends : List ℕ} {i c : ℕ}
               left = left;
               come =
                   subst (λ (x : List (List ℕ)). Come columns (drop at l) x (p .reading .bytes + m + 1) left)
-                  (ap (λ (x : List ℕ). fieldsTo l at ends c ++ take m x ∷ []) (rest-is (p .reading)) ∙ sym (fields-stored l at ends c m (p .reading .start) room))
+                  (ap (λ (x : List ℕ). fieldsTo l at ends c ++ take m x ∷ []) (rest-is (p .reading))
+                  ∙ sym (fields-stored l at ends c m (p .reading .start) room))
                   (come-on q comma);
               place = omega (arith, p .reading .place);
               start = sym (start-stored l at ends c m (p .reading .start) room);

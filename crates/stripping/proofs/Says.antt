@@ -1,6 +1,6 @@
 -- The answers of `strip`, each from the tests before it and what was taken.
 -- Assumes nothing.
-use mathlib.Core.Path.{_≡_, refl, sym, ap, subst, _∙_}
+use mathlib.Core.Path.{_≡_, refl, sym, ap, _∙_}
 use mathlib.Core.Bool.{Bool, true, false, cond, _&&_}
 use mathlib.Core.List.{List, [], _∷_}
 use Prim.Native.Nat.{ℕ, _+_, _≤_, _<_}
@@ -17,7 +17,7 @@ use Rattle.refusals.specs.Numbers.{mostText}
 use Rattle.exports.specs.Rows.{taken}
 use Rattle.exports.specs.Text.{linesOf, csvSyntax}
 use Rattle.exports.proofs.Joining.{lines-none}
-use Rattle.stripping.specs.Stripping.{answerTo, madeOf, stripAnswer, outAfter, StripSays}
+use Rattle.stripping.specs.Stripping.{answerTo, madeOf, stripAnswer, StripSays}
 use Rattle.stripping.specs.Inner.{FrontSays}
 use Rattle.stripping.specs.declared.Front.{Front}
 use Rattle.stripping.specs.declared.Stripped.{Stripped}
@@ -61,7 +61,8 @@ module _ {l : List ℕ} (last : Bool) {kept : List Bool} (number : ℕ) (out : L
     says-wide h = record { answer = rw (le-ltb mostText (length l) short, lt-ltb mostFields (length kept) h); out-after = refl }
 
     module _ (narrow : length kept ≤ mostFields) {d₀ : List ℕ} {r : Front} {d : List ℕ} (p : FrontSays l last kept d₀ r d) where
-      answer-is : answerTo number (length out) (length (madeOf l last kept)) (taken last (length kept) l) ≡ stripAnswer l last kept number (length out)
+      answer-is : answerTo number (length out) (length (madeOf l last kept)) (taken last (length kept) l)
+          ≡ stripAnswer l last kept number (length out)
       unfolding stripAnswer
       answer-is = rw (le-ltb mostText (length l) short, le-ltb mostFields (length kept) narrow)
 
@@ -75,12 +76,16 @@ module _ {l : List ℕ} (last : Bool) {kept : List Bool} (number : ℕ) (out : L
       answer-by a b e f = rw (← e, ← f) answer-is
 
       pub says-refused : r .refused ≡ true → StripSays l last kept number out (Stripped.Refused csvSyntax number) out
-      says-refused h = record { answer = answer-by true (ltb (length out) (length (madeOf l last kept))) (sym (p .refused) ∙ h) refl; out-after = refl }
+      says-refused h = record {
+        answer = answer-by true (ltb (length out) (length (madeOf l last kept))) (sym (p .refused) ∙ h) refl;
+        out-after = refl;
+      }
 
       module _ (good : r .refused ≡ false) where
         pub says-no-room : length out < r .len → StripSays l last kept number out (Stripped.Refused 11 0) out
         says-no-room h = record {
-          answer = answer-by false true (sym (p .refused) ∙ good) (lt-ltb (length out) (length (madeOf l last kept)) (omega (arith, h, p .len)));
+          answer =
+              answer-by false true (sym (p .refused) ∙ good) (lt-ltb (length out) (length (madeOf l last kept)) (omega (arith, h, p .len)));
           out-after = refl;
         }
 
@@ -97,8 +102,8 @@ module _ {l : List ℕ} (last : Bool) {kept : List Bool} (number : ℕ) (out : L
             same = e ∙ front-text p
 
 -- The same where the lines were put straight into the buffer.
-module _ {l : List ℕ} (last : Bool) {kept : List Bool} (number : ℕ) (out : List ℕ) (short : length l ≤ mostText) (narrow : length kept ≤ mostFields)
-    {r : Front} {out′ : List ℕ} (p : FrontSays l last kept out r out′) where
+module _ {l : List ℕ} (last : Bool) {kept : List Bool} (number : ℕ) (out : List ℕ) (short : length l ≤ mostText)
+    (narrow : length kept ≤ mostFields) {r : Front} {out′ : List ℕ} (p : FrontSays l last kept out r out′) where
   pub straight-refused : r .refused ≡ true → StripSays l last kept number out (Stripped.Refused csvSyntax number) out′
   straight-refused h = record { answer = says-refused last number out short narrow p h .answer; out-after = front-refused p h }
 

@@ -1,5 +1,5 @@
--- Record after record: what the loop keeps from turn to turn, and what was taken and put when it stops. It rests on the laws of one record and on
--- those of taking records.
+-- Record after record: what the loop keeps from turn to turn, and what was taken and put when it stops. It rests on the laws of one record and
+-- on those of taking records.
 -- Assumes nothing.
 use mathlib.Core.Path.{_≡_, refl, sym, ap, subst, _∙_}
 use mathlib.Core.Bool.{Bool, true, false, _&&_}
@@ -23,8 +23,8 @@ use Rattle.exports.specs.Reading.{Gone}
 use Rattle.exports.specs.Text.{linesOf, lineOf}
 use Rattle.exports.proofs.Gone.{gone-start, gone-on, gone-end, gone-more, gone-bad}
 use Rattle.exports.proofs.Joining.{lines-none, lines-one-more}
-use Rattle.stripping.specs.Inner.{Made, Fits, fieldsTo, ReadReady, WholeRow, RowRead, is-whole, is-more, is-bad, PutReady, RowPut, TakeReady, FrontSays, isBad}
-use Rattle.stripping.specs.declared.Front.{Front}
+use Rattle.stripping.specs.Inner.{Made, Fits, fieldsTo, ReadReady, WholeRow, RowRead, is-whole, is-more, is-bad}
+use Rattle.stripping.specs.Inner.{PutReady, RowPut, TakeReady, FrontSays, isBad}
 use Rattle.stripping.proofs.Making.{made-none, made-made, made-size}
 
 -- What the loop over the records keeps from turn to turn: n records are taken, up to a place, and their lines are put.
@@ -146,14 +146,16 @@ module _ {l : List ℕ} {last : Bool} {kept : List Bool} {d₀ d ends₀ : List 
     abbrev fs : List (List ℕ)
     fs = fieldsTo l at ends (length kept)
 
-    pub take-on : {end : ℕ} {d′ : List ℕ} → RowPut l at ends kept d to end d′ → length ends ≡ length ends₀ → TakeAt l last kept d₀ d′ ends (at + used) end (n + 1)
+    pub take-on : {end : ℕ} {d′ : List ℕ} → RowPut l at ends kept d to end d′ → length ends ≡ length ends₀
+        → TakeAt l last kept d₀ d′ ends (at + used) end (n + 1)
     take-on {end} {d′} w z = record {
       ready = p .ready;
       rows = p .rows ++ fs ∷ [];
       gone = gone-on (p .gone) h (row .found);
       made =
           subst (λ (x : List ℕ). Made d₀ 0 x d′) (sym (lines-one-more kept (p .rows) fs))
-          (made-made (p .made) (subst (λ (k : ℕ). Made d k (lineOf kept fs) d′) (p .len ∙ sym (zero-add (length (linesOf kept (p .rows))))) (w .made)));
+          (made-made (p .made)
+          (subst (λ (k : ℕ). Made d k (lineOf kept fs) d′) (p .len ∙ sym (zero-add (length (linesOf kept (p .rows))))) (w .made)));
       len =
           omega (
             arith,

@@ -43,9 +43,10 @@ pub fn strip(text: &[u8], last: bool, kept: &[bool], number: u64, out: &mut [u8]
     }
     let front = take(text, last, kept, out);
     if front.refused {
-        return Stripped::Refused(CSV_SYNTAX, number);
+        Stripped::Refused(CSV_SYNTAX, number)
+    } else {
+        Stripped::Text(front.used, front.len, front.records)
     }
-    Stripped::Text(front.used, front.len, front.records)
 }
 
 // The same where `out` may be shorter than what is written: that is made elsewhere first.

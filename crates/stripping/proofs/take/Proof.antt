@@ -1,7 +1,8 @@
 use Prim.Native.Nat.{_-_}
 use lib.ListN.{length}
 use borrow.Author.Needs.{needs}
-use Rattle.stripping.proofs.Taking.{TakeAt, take-none, read-ready, take-stopped, put-ready, place-fits, count-fits, take-less, take-on, take-end}
+use Rattle.stripping.proofs.Taking.{TakeAt, take-none, read-ready, take-stopped, put-ready, place-fits}
+use Rattle.stripping.proofs.Taking.{count-fits, take-less, take-on, take-end}
 use Rattle.stripping.proofs.take.Statement.{statement}
 use Rattle.stripping.proofs.take.Tie as tie
 use Rattle.stripping.proofs.take.Reads as reads
@@ -42,8 +43,8 @@ slice-aggregate-put-row c = search needs
 
 put-row-requires : tie.Need-put-row-requires Inv-loop μ-loop
 put-row-requires c κs =
-    put-ready (c .before .before .before .before .before .before .before .before .before .loop .inv) (search needs) (c .before .before .before .before .before .before .read-row .ensures)
-    (c .before .before .before .size .given .1) (search needs)
+    put-ready (c .before .before .before .before .before .before .before .before .before .loop .inv) (search needs)
+    (c .before .before .before .before .before .before .read-row .ensures) (c .before .before .before .size .given .1) (search needs)
 
 add-at : tie.Need-add-at Inv-loop μ-loop
 add-at c = search (place-fits, needs)

@@ -1,5 +1,4 @@
 use Prim.Native.Nat.{_-_}
-use lib.ListN.{length}
 use borrow.Author.Needs.{needs}
 use Rattle.stripping.proofs.Reading.{RowAt, row-starts, row-last, row-fits, row-fits-on, row-on, row-many}
 use Rattle.stripping.proofs.row.read_row.Statement.{statement}
