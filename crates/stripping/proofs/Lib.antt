@@ -1,7 +1,10 @@
--- Why `stripping` is right: what is made in a buffer, record by record, and that any two results of its promise are equal.
+-- Why `stripping` is right: a record found by the ends of its fields, lines put into a buffer, record by record, and that any two results of
+-- its promise are equal.
 pub mod Making
-pub mod Rowing
+pub mod Ends
+pub mod Reading
 pub mod LastField
+pub mod Putting
 pub mod Taking
 pub mod Says
 pub mod Calls

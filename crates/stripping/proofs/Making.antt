@@ -2,19 +2,17 @@
 -- Assumes nothing.
 use mathlib.Core.Path.{_≡_, refl, sym, ap, subst, _∙_}
 use mathlib.Core.Bool.{Bool, true, false, not}
-use mathlib.Core.List.{List, [], _∷_, _++_, append-assoc, append-nil}
+use mathlib.Core.List.{List, [], _∷_, _++_}
 use Prim.Native.Nat.{ℕ, _+_, _-_, _^_, _≤_, _<_, zero-le}
-use native.Mathlib.Nat.{add-zero, add-assoc}
-use native.Mathlib.Numerals.{add-one}
+use native.Mathlib.Nat.{add-zero}
 use native.Mathlib.Omega.{arith}
-use lib.Dec.{ltb}
-use lib.ListN.{length, take, drop, set, length-append, length-drop, length-set}
-use lib.Seq.{take-take, length-take-le, take-at, take-suc-set}
+use lib.ListN.{length, take, drop, set, length-append, length-drop}
+use lib.Seq.{take-take, length-take-le, take-at, drop-at, drop-drop}
 use mir.Syntax.{w64}
 use mir.Val.{Fits}
 use borrow.Author.Tests.{lt-ltb, le-ltb}
-use Rattle.puts.specs.Writing.{Put}
-use Rattle.puts.proofs.Over.{over-length, take-over, put-buffer, put-next}
+use Rattle.puts.specs.Writing.{over, Put}
+use Rattle.puts.proofs.Over.{over-is, over-none, set-over, over-length, take-over, drop-over, over-over, put-buffer, put-next}
 use Rattle.exports.specs.Text.{closedEach, joined}
 use Rattle.exports.proofs.Joining.{closed-joined}
 use Rattle.stripping.specs.Inner.{Made, KeepReady, Keeps, linePlace, EndReady, EndsLine}
@@ -24,36 +22,36 @@ pub part-is : (at len : ℕ) (l : List ℕ) → take (at + len - at) l ≡ take 
 part-is at len l = ap (λ (k : ℕ). take k l) (let e : at + len - at ≡ len = omega arith in e)
 
 -- Nothing is made.
-pub made-none : (d : List ℕ) (to : ℕ) → Made d to [] d
-made-none d to = record { text = rw (append-nil, add-zero); size = refl }
+pub made-none : (d : List ℕ) (to : ℕ) → to ≤ length d → Made d to [] d
+made-none d to h = record { buffer = sym (over-none d to); room = rw add-zero h }
+
+-- The buffer is as long as it was.
+pub made-size : {d : List ℕ} {to : ℕ} {x d′ : List ℕ} → Made d to x d′ → length d′ ≡ length d
+made-size {d} {to} {x} p = ap length (p .buffer) ∙ over-length d to x (p .room)
 
 -- What a put with room makes.
 pub put-made : {d : List ℕ} {to : ℕ} {x d′ : List ℕ} {r : ℕ} → Put d to x d′ r → to + length x ≤ length d → Made d to x d′
-put-made {d} {to} {x} p h =
-    record {
-      text = rw (put-buffer p h) (take-over d to x h);
-      size = ap length (put-buffer p h) ∙ over-length d to x h;
-    }
+put-made p h = record { buffer = put-buffer p h; room = h }
 
 -- One text behind another.
 pub made-made : {d : List ℕ} {to : ℕ} {x d₁ y d₂ : List ℕ} → Made d to x d₁ → Made d₁ (to + length x) y d₂ → Made d to (x ++ y) d₂
-made-made {d} {to} {x} {d₁} {y} {d₂} p q =
-    record {
-      text = rw (length-append, ← add-assoc) (q .text ∙ rw (p .text, append-assoc));
-      size = q .size ∙ p .size;
-    }
+made-made {d} {to} {x} {d₁} {y} {d₂} p q = record {
+  buffer = q .buffer ∙ ap (λ (b : List ℕ). over b (to + length x) y) (p .buffer) ∙ over-over d to x (p .room) y;
+  room = omega (arith, length-append x y, q .room, made-size p);
+}
 
 -- A byte that is stored.
 pub set-made : (d : List ℕ) (to b : ℕ) → to < length d → Made d to (b ∷ []) (set d to b)
-set-made d to b h = record { text = rw add-one (take-suc-set d to b h); size = length-set d to b }
+set-made d to b h = record { buffer = set-over d to b h; room = omega arith }
 
 -- A field that is not kept, and one that is kept and put with a comma behind it.
-pub keeps-none : (l : List ℕ) (at len : ℕ) (kept : Bool) (d : List ℕ) (to : ℕ) → not kept ≡ true → Keeps l at len kept d to to d
-keeps-none l at len true d to h = let z : _≡_ {A = ℕ} 0 1 = cc in absurd (omega arith)
-keeps-none l at len false d to h = record { made = made-none d to; next = sym (add-zero to) }
+pub keeps-none : (l : List ℕ) (at len : ℕ) (kept : Bool) (d : List ℕ) (to : ℕ) → not kept ≡ true → KeepReady l at len d to
+    → Keeps l at len kept d to to d
+keeps-none l at len true d to h ready = let z : _≡_ {A = ℕ} 0 1 = cc in absurd (omega arith)
+keeps-none l at len false d to h ready = record { made = made-none d to (omega (arith, ready .room)); next = sym (add-zero to) }
 
-pub keeps-put : (l : List ℕ) (at len : ℕ) (kept : Bool) (d : List ℕ) (to : ℕ) {x d₁ : List ℕ} {r : ℕ} → not kept ≡ false → KeepReady l at len d to
-    → x ≡ take len (drop at l) → Put d to x d₁ r → Keeps l at len kept d to (r + 1) (set d₁ r 44)
+pub keeps-put : (l : List ℕ) (at len : ℕ) (kept : Bool) (d : List ℕ) (to : ℕ) {x d₁ : List ℕ} {r : ℕ} → not kept ≡ false
+    → KeepReady l at len d to → x ≡ take len (drop at l) → Put d to x d₁ r → Keeps l at len kept d to (r + 1) (set d₁ r 44)
 keeps-put l at len false d to h ready e p = let z : _≡_ {A = ℕ} 0 1 = cc in absurd (omega arith)
 keeps-put l at len true d to {x} {d₁} {r} h ready e p = record {
   made =
@@ -72,11 +70,11 @@ keeps-put l at len true d to {x} {d₁} {r} h ready e p = record {
     next = put-next p fits
 
     size : length d₁ ≡ length d
-    size = put-made p fits .size
+    size = made-size (put-made p fits)
 
 -- There is room for the comma.
-module _ (l : List ℕ) (at len : ℕ) (d : List ℕ) (to : ℕ) {x d₁ : List ℕ} {r : ℕ} (ready : KeepReady l at len d to) (e : x ≡ take len (drop at l))
-    (p : Put d to x d₁ r) where
+module _ (l : List ℕ) (at len : ℕ) (d : List ℕ) (to : ℕ) {x d₁ : List ℕ} {r : ℕ} (ready : KeepReady l at len d to)
+    (e : x ≡ take len (drop at l)) (p : Put d to x d₁ r) where
   long : length x ≡ len
   long = ap length e ∙ length-take-le len (drop at l) (omega (arith, length-drop at l, ready .inside))
 
@@ -84,16 +82,17 @@ module _ (l : List ℕ) (at len : ℕ) (d : List ℕ) (to : ℕ) {x d₁ : List 
   fits = omega (arith, long, ready .room)
 
   pub comma-in : r < length d₁
-  comma-in = omega (arith, put-next p fits, put-made p fits .size, ready .room, long)
+  comma-in = omega (arith, put-next p fits, made-size (put-made p fits), ready .room, long)
 
   pub comma-fits : length d < 2 ^ 64 → Fits w64 (r + 1)
   comma-fits h = record { fits = omega (arith, put-next p fits, ready .room, long) }
 
 -- The line end behind what was made, over the comma behind the last field or at the place itself.
-pub ends-over : (d : List ℕ) (to n : ℕ) {d′ : List ℕ} {r : ℕ} → EndReady d to n → to < n → Put d (n - 1) (13 ∷ 10 ∷ []) d′ r → EndsLine d to n r d′
+pub ends-over : (d : List ℕ) (to n : ℕ) {d′ : List ℕ} {r : ℕ} → EndReady d to n → to < n → Put d (n - 1) (13 ∷ 10 ∷ []) d′ r
+    → EndsLine d to n r d′
 ends-over d to n ready h p = record {
-  made = rw (lt-ltb to n h) (put-made p (omega (arith, h, ready .over h)));
-  next = rw (lt-ltb to n h) (put-next p (omega (arith, h, ready .over h)));
+  made = rw (lt-ltb to n h) (put-made p (omega (arith, h, ready .over-comma h)));
+  next = rw (lt-ltb to n h) (put-next p (omega (arith, h, ready .over-comma h)));
 }
 
 pub ends-here : (d : List ℕ) (to n : ℕ) {d′ : List ℕ} {r : ℕ} → EndReady d to n → n ≤ to → Put d n (13 ∷ 10 ∷ []) d′ r → EndsLine d to n r d′
@@ -102,15 +101,47 @@ ends-here d to n ready h p = record {
   next = rw (le-ltb to n h) (put-next p (ready .here h));
 }
 
--- The front of what was made.
-pub made-front : {d : List ℕ} {to : ℕ} (x y : List ℕ) {d′ : List ℕ} → to ≤ length d → Made d to (x ++ y) d′ → Made d to x d′
-made-front {d} {to} x y {d′} h p = record {
-  text =
-      sym (take-take (to + length x) (to + length (x ++ y)) d′ (omega (arith, length-append x y)))
-      ∙ ap (take (to + length x)) (p .text ∙ sym (append-assoc (take to d) x y))
-      ∙ take-at (take to d ++ x) y (to + length x) (length-append (take to d) x ∙ ap (λ (k : ℕ). k + length x) (length-take-le to d h));
-  size = p .size;
+-- What is put over a shorter text at the same place leaves nothing of it.
+over-again : (d : List ℕ) (at : ℕ) (y z : List ℕ) → length y ≤ length z → at + length z ≤ length d → over (over d at y) at z ≡ over d at z
+over-again d at y z h g =
+    over-is (over d at y) at z
+    ∙ rw (front, rest) (sym (over-is d at z))
+  where
+    room : at + length y ≤ length d
+    room = omega arith
+
+    front : take at (over d at y) ≡ take at d
+    front =
+        sym (take-take at (at + length y) (over d at y) (omega arith)) ∙ ap (take at) (take-over d at y room)
+        ∙ take-at (take at d) y at (length-take-le at d (omega arith))
+
+    rest : drop (at + length z) (over d at y) ≡ drop (at + length z) d
+    rest =
+        ap (λ (k : ℕ). drop k (over d at y)) far ∙ sym (drop-drop (length z - length y) (at + length y) (over d at y))
+        ∙ ap (drop (length z - length y)) behind
+        ∙ drop-drop (length z - length y) (at + length y) d ∙ ap (λ (k : ℕ). drop k d) (sym far)
+      where
+        behind : drop (at + length y) (over d at y) ≡ drop (at + length y) d
+        behind =
+            sym (drop-drop (length y) at (over d at y)) ∙ ap (drop (length y)) (drop-over d at y room)
+            ∙ drop-at y (drop (at + length y) d) (length y) refl
+
+        far : at + length z ≡ at + length y + (length z - length y)
+        far = omega arith
+
+-- One text over the end of another that is no longer.
+pub made-over : {d : List ℕ} {to : ℕ} (x y : List ℕ) {d₁ z d₂ : List ℕ} → length y ≤ length z → Made d to (x ++ y) d₁
+    → Made d₁ (to + length x) z d₂ → Made d to (x ++ z) d₂
+made-over {d} {to} x y {d₁} {z} {d₂} h p q = record {
+  buffer =
+      q .buffer ∙ ap (λ (b : List ℕ). over b (to + length x) z) (p .buffer ∙ sym (over-over d to x first y))
+      ∙ over-again (over d to x) (to + length x) y z h (omega (arith, q .room, made-size p, over-length d to x first))
+      ∙ over-over d to x first z;
+  room = omega (arith, length-append x z, q .room, made-size p);
 }
+  where
+    first : to + length x ≤ length d
+    first = omega (arith, p .room, length-append x y)
 
 place-here : (to n : ℕ) → n ≡ to → linePlace to n ≡ to
 place-here to n e = rw (le-ltb to n (omega (arith, e))) e
@@ -132,16 +163,17 @@ line-place to n (g ∷ gs) e =
     place-over to (length (joined (g ∷ gs))) n
     (omega (arith, e, ap length (closed-joined (g ∷ gs) (omega arith)), length-append (joined (g ∷ gs)) (44 ∷ [])))
 
-front-made : {d : List ℕ} {to : ℕ} (gs : List (List ℕ)) {d₁ : List ℕ} → to ≤ length d → Made d to (closedEach gs) d₁ → Made d to (joined gs) d₁
-unfolding closedEach joined
-front-made [] h p = p
-front-made {d} {to} (g ∷ gs) {d₁} h p =
-    made-front (joined (g ∷ gs)) (44 ∷ []) h (subst (λ (x : List ℕ). Made d to x d₁) (closed-joined (g ∷ gs) (omega arith)) p)
-
 -- Closed fields with the line end over the last comma are joined fields and a line end.
+line-over : {d : List ℕ} {to : ℕ} (gs : List (List ℕ)) {d₁ d₂ : List ℕ} → Made d to (closedEach gs) d₁
+    → Made d₁ (to + length (joined gs)) (13 ∷ 10 ∷ []) d₂ → Made d to (joined gs ++ 13 ∷ 10 ∷ []) d₂
+unfolding closedEach joined
+line-over [] p q = made-made p q
+line-over {d} {to} (g ∷ gs) {d₁} p q =
+    made-over (joined (g ∷ gs)) (44 ∷ []) (omega arith) (subst (λ (x : List ℕ). Made d to x d₁) (closed-joined (g ∷ gs) (omega arith)) p) q
+
 module _ {d₁ : List ℕ} {to n r : ℕ} {d₂ : List ℕ} (gs : List (List ℕ)) (e : n ≡ to + length (closedEach gs)) (q : EndsLine d₁ to n r d₂) where
-  pub line-made : {d : List ℕ} → to ≤ length d → Made d to (closedEach gs) d₁ → Made d to (joined gs ++ 13 ∷ 10 ∷ []) d₂
-  line-made h p = made-made (front-made gs h p) (subst (λ (k : ℕ). Made d₁ k (13 ∷ 10 ∷ []) d₂) (line-place to n gs e) (q .made))
+  pub line-made : {d : List ℕ} → Made d to (closedEach gs) d₁ → Made d to (joined gs ++ 13 ∷ 10 ∷ []) d₂
+  line-made p = line-over gs p (subst (λ (k : ℕ). Made d₁ k (13 ∷ 10 ∷ []) d₂) (line-place to n gs e) (q .made))
 
   pub line-next : r ≡ to + length (joined gs ++ 13 ∷ 10 ∷ [])
   line-next = omega (arith, q .next, line-place to n gs e, length-append (joined gs) (13 ∷ 10 ∷ []))

@@ -1,28 +1,54 @@
 -- The answers of `strip`, each from the tests before it and what was taken.
 -- Assumes nothing.
-use mathlib.Core.Path.{_≡_, refl, sym, ap, subst, _∙_}
+use mathlib.Core.Path.{_≡_, refl, sym, ap, _∙_}
 use mathlib.Core.Bool.{Bool, true, false, cond, _&&_}
-use mathlib.Core.List.{List}
+use mathlib.Core.List.{List, [], _∷_}
 use Prim.Native.Nat.{ℕ, _+_, _≤_, _<_}
+use native.Mathlib.Nat.{zero-add}
 use native.Mathlib.Omega.{arith}
 use lib.Dec.{ltb, eqb}
 use lib.ListN.{length, take}
 use lib.Seq.{length-take-le}
-use borrow.Author.Tests.{lt-ltb, le-ltb}
+use borrow.Author.Tests.{lt-ltb, le-ltb, ne-eqb}
 use Rattle.puts.specs.Writing.{Put, over}
-use Rattle.puts.proofs.Over.{put-buffer}
+use Rattle.puts.proofs.Over.{over-none, take-over, put-buffer}
 use Rattle.records.specs.Rows.{mostFields}
 use Rattle.refusals.specs.Numbers.{mostText}
 use Rattle.exports.specs.Rows.{taken}
-use Rattle.exports.specs.Text.{csvSyntax}
-use Rattle.stripping.specs.Stripping.{answerTo, madeOf, stripAnswer, outAfter, StripSays}
+use Rattle.exports.specs.Text.{linesOf, csvSyntax}
+use Rattle.exports.proofs.Joining.{lines-none}
+use Rattle.stripping.specs.Stripping.{answerTo, madeOf, stripAnswer, StripSays}
 use Rattle.stripping.specs.Inner.{FrontSays}
 use Rattle.stripping.specs.declared.Front.{Front}
 use Rattle.stripping.specs.declared.Stripped.{Stripped}
+use Rattle.stripping.proofs.Making.{made-size}
 
--- What was made is as long as it is said to be.
-pub front-long : {l : List ℕ} {last : Bool} {kept : List Bool} {r : Front} {d : List ℕ} → FrontSays l last kept r d → r .len ≡ length (take (r .len) d)
-front-long {r = r} {d} p = sym (length-take-le (r .len) d (p .within))
+-- What was put is no longer than the buffer, and stands at its front.
+module _ {l : List ℕ} {last : Bool} {kept : List Bool} {d : List ℕ} {r : Front} {d′ : List ℕ} (p : FrontSays l last kept d r d′) where
+  pub front-within : r .len ≤ length d′
+  front-within = omega (arith, p .len, p .made .room, made-size (p .made))
+
+  pub front-long : r .len ≡ length (take (r .len) d′)
+  front-long = sym (length-take-le (r .len) d′ front-within)
+
+  pub front-text : take (r .len) d′ ≡ madeOf l last kept
+  front-text =
+      ap (λ (k : ℕ). take k d′) (p .len ∙ sym (zero-add (length (madeOf l last kept))))
+      ∙ ap (take (0 + length (madeOf l last kept))) (p .made .buffer) ∙ take-over d 0 (madeOf l last kept) (p .made .room)
+
+-- Of a first record that is bad nothing was put.
+no-rows : (kept : List Bool) (rows : List (List (List ℕ))) (faulty : Bool) → (eqb (length rows) 0 && faulty) ≡ true → linesOf kept rows ≡ []
+no-rows kept [] faulty h = lines-none kept
+no-rows kept (fs ∷ rows) faulty h =
+    let z : false ≡ true = ap (λ (b : Bool). b && faulty) (sym (ne-eqb (length (fs ∷ rows)) 0 (λ e. absurd (omega (arith, e))))) ∙ h in
+    let y : _≡_ {A = ℕ} 0 1 = cc in absurd (omega arith)
+
+pub front-refused : {l : List ℕ} {last : Bool} {kept : List Bool} {d : List ℕ} {r : Front} {d′ : List ℕ} → FrontSays l last kept d r d′
+    → r .refused ≡ true → d′ ≡ d
+front-refused {l} {last} {kept} {d} p h =
+    p .made .buffer
+    ∙ ap (over d 0) (no-rows kept (taken last (length kept) l .rows) (taken last (length kept) l .faulty) (sym (p .refused) ∙ h))
+    ∙ over-none d 0
 
 module _ {l : List ℕ} (last : Bool) {kept : List Bool} (number : ℕ) (out : List ℕ) where
   pub says-long : mostText < length l → StripSays l last kept number out (Stripped.Refused 1 0) out
@@ -34,8 +60,9 @@ module _ {l : List ℕ} (last : Bool) {kept : List Bool} (number : ℕ) (out : L
     unfolding stripAnswer
     says-wide h = record { answer = rw (le-ltb mostText (length l) short, lt-ltb mostFields (length kept) h); out-after = refl }
 
-    module _ (narrow : length kept ≤ mostFields) {r : Front} {d : List ℕ} (p : FrontSays l last kept r d) where
-      answer-is : answerTo number (length out) (length (madeOf l last kept)) (taken last (length kept) l) ≡ stripAnswer l last kept number (length out)
+    module _ (narrow : length kept ≤ mostFields) {d₀ : List ℕ} {r : Front} {d : List ℕ} (p : FrontSays l last kept d₀ r d) where
+      answer-is : answerTo number (length out) (length (madeOf l last kept)) (taken last (length kept) l)
+          ≡ stripAnswer l last kept number (length out)
       unfolding stripAnswer
       answer-is = rw (le-ltb mostText (length l) short, le-ltb mostFields (length kept) narrow)
 
@@ -49,12 +76,16 @@ module _ {l : List ℕ} (last : Bool) {kept : List Bool} (number : ℕ) (out : L
       answer-by a b e f = rw (← e, ← f) answer-is
 
       pub says-refused : r .refused ≡ true → StripSays l last kept number out (Stripped.Refused csvSyntax number) out
-      says-refused h = record { answer = answer-by true (ltb (length out) (length (madeOf l last kept))) (sym (p .refused) ∙ h) refl; out-after = refl }
+      says-refused h = record {
+        answer = answer-by true (ltb (length out) (length (madeOf l last kept))) (sym (p .refused) ∙ h) refl;
+        out-after = refl;
+      }
 
       module _ (good : r .refused ≡ false) where
         pub says-no-room : length out < r .len → StripSays l last kept number out (Stripped.Refused 11 0) out
         says-no-room h = record {
-          answer = answer-by false true (sym (p .refused) ∙ good) (lt-ltb (length out) (length (madeOf l last kept)) (omega (arith, h, p .len)));
+          answer =
+              answer-by false true (sym (p .refused) ∙ good) (lt-ltb (length out) (length (madeOf l last kept)) (omega (arith, h, p .len)));
           out-after = refl;
         }
 
@@ -68,4 +99,19 @@ module _ {l : List ℕ} (last : Bool) {kept : List Bool} (number : ℕ) (out : L
         }
           where
             same : x ≡ madeOf l last kept
-            same = e ∙ p .text
+            same = e ∙ front-text p
+
+-- The same where the lines were put straight into the buffer.
+module _ {l : List ℕ} (last : Bool) {kept : List Bool} (number : ℕ) (out : List ℕ) (short : length l ≤ mostText)
+    (narrow : length kept ≤ mostFields) {r : Front} {out′ : List ℕ} (p : FrontSays l last kept out r out′) where
+  pub straight-refused : r .refused ≡ true → StripSays l last kept number out (Stripped.Refused csvSyntax number) out′
+  straight-refused h = record { answer = says-refused last number out short narrow p h .answer; out-after = front-refused p h }
+
+  pub straight-text : r .refused ≡ false → StripSays l last kept number out (Stripped.Text (r .used) (r .len) (r .records)) out′
+  straight-text h = record {
+    answer =
+        rw (p .used, p .len, p .records)
+        (answer-by last number out short narrow p false false (sym (p .refused) ∙ h)
+        (le-ltb (length out) (length (madeOf l last kept)) (omega (arith, p .made .room))));
+    out-after = p .made .buffer;
+  }

@@ -3,14 +3,15 @@ mod row;
 
 use puts::put;
 use records::MOST_FIELDS;
+use records::Size;
 use refusals::MOST_TEXT;
-use row::Row;
-use row::strip_row;
+use row::put_row;
+use row::read_row;
 ghost use mathlib.Core.Path.{_≡_};
 ghost use mathlib.Core.Bool.{_&&_};
 ghost use lib.Dec.{eqb};
 ghost use Rattle.stripping.specs.Stripping.{StripSays};
-ghost use Rattle.stripping.specs.Inner.{FrontSays, Spacious, isBad};
+ghost use Rattle.stripping.specs.Inner.{FrontSays, TakeReady, ShortReady, isBad};
 
 // The numbers of refusal for a bad record and for a bad header.
 pub const CSV_SYNTAX: u64 = 16;
@@ -37,6 +38,22 @@ pub fn strip(text: &[u8], last: bool, kept: &[bool], number: u64, out: &mut [u8]
     if MOST_FIELDS < kept.len() {
         return Stripped::Refused(10, 0);
     }
+    if out.len() < text.len() + 2 {
+        return strip_short(text, last, kept, number, out);
+    }
+    let front = take(text, last, kept, out);
+    if front.refused {
+        Stripped::Refused(CSV_SYNTAX, number)
+    } else {
+        Stripped::Text(front.used, front.len, front.records)
+    }
+}
+
+// The same where `out` may be shorter than what is written: that is made elsewhere first.
+fn strip_short(text: &[u8], last: bool, kept: &[bool], number: u64, out: &mut [u8]) -> Stripped
+    requires { ⌜ ShortReady (now text) (now kept) ⌝ }
+    ensures { λ r. ⌜ StripSays (now (text .entry)) last (now (kept .entry)) number (now (out .entry)) r (now (out .exit)) ⌝ }
+{
     let mut made = [0u8; MOST_MADE];
     let front = take(text, last, kept, &mut made);
     if front.refused {
@@ -58,26 +75,27 @@ struct Front {
     refused: bool,
 }
 
-// Makes the text of the whole records at the front of a text, up to a bad one.
-fn take(text: &[u8], last: bool, kept: &[bool], made: &mut [u8]) -> Front
-    requires { ⌜ Spacious (now text) (now made) ⌝ }
-    ensures { λ r. ⌜ FrontSays (now (text .entry)) last (now (kept .entry)) r (now (made .exit)) ⌝ }
+// Puts the lines of the whole records at the front of a text, up to a bad one.
+fn take(text: &[u8], last: bool, kept: &[bool], out: &mut [u8]) -> Front
+    requires { ⌜ TakeReady (now text) (now kept) (now out) ⌝ }
+    ensures { λ r. ⌜ FrontSays (now (text .entry)) last (now (kept .entry)) (now (out .entry)) r (now (out .exit)) ⌝ }
 {
+    let mut ends = [0usize; MOST_FIELDS];
     let mut at = 0;
     let mut to = 0;
     let mut n = 0;
     while at < text.len() {
-        let found = strip_row(text, at, last, kept, made, to);
-        let Row::Whole(next, end) = found else {
+        let size = read_row(text, at, last, kept.len(), &mut ends);
+        let Size::Whole(_, used) = size else {
             return Front {
                 used: at,
                 len: to,
                 records: n,
-                refused: refuses(found, n),
+                refused: refuses(size, n),
             };
         };
-        at = next;
-        to = end;
+        to = put_row(text, at, &ends, kept, out, to);
+        at += used;
         n += 1;
     }
     Front {
@@ -89,15 +107,15 @@ fn take(text: &[u8], last: bool, kept: &[bool], made: &mut [u8]) -> Front
 }
 
 // Whether a record that is not whole is refused: it is bad, and none was taken before it.
-fn refuses(found: Row, records: usize) -> bool
+fn refuses(found: Size, records: usize) -> bool
     ensures { λ r. ⌜ r ≡ (eqb records 0 && isBad found) ⌝ }
 {
     if records != 0 {
         return false;
     }
     match found {
-        Row::Bad => true,
-        Row::More => false,
-        Row::Whole(_, _) => false,
+        Size::Bad => true,
+        Size::More => false,
+        Size::Whole(_, _) => false,
     }
 }

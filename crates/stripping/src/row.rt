@@ -1,4 +1,4 @@
-// One record: its kept fields, each handed back as a part of the text, go into a buffer with commas between them.
+// One record: where its fields end, and its line, the kept fields with commas between them. Each of those is handed back as a part of the text.
 use puts::put;
 use records::Field;
 use records::Size;
@@ -7,79 +7,57 @@ use records::read_field;
 ghost use mathlib.Core.Path.{_≡_};
 ghost use Prim.Native.Nat.{_+_, _≤_};
 ghost use lib.ListN.{length, take, drop};
-ghost use Rattle.stripping.specs.Inner.{KeepReady, Keeps, EndReady, EndsLine, RowReady, RowSays, LastReady, lengthOf, withoutRow};
+ghost use Rattle.stripping.specs.Inner.{ReadReady, RowRead, LastReady, lengthOf};
+ghost use Rattle.stripping.specs.Inner.{PutReady, RowPut, KeepReady, Keeps, EndReady, EndsLine};
 
-// The places behind a record and behind what was made of it; More where the text ends before the record does; Bad where it is none or has
-// another number of fields than there are columns.
-pub enum Row {
-    Whole(usize, usize),
-    More,
-    Bad,
-}
-
-// Makes the text of the record at a place, from `to` on in the buffer. Of one that is unfinished or bad nothing before `to` is changed.
-pub(crate) fn strip_row(
+// Finds the record at a place, with so many columns, and where each of its fields ends. Only of a whole record the ends count.
+pub(crate) fn read_row(
     text: &[u8],
     at: usize,
     last: bool,
-    kept: &[bool],
-    made: &mut [u8],
-    to: usize,
-) -> Row
-    requires { ⌜ RowReady (now text) at (now made) to ⌝ }
-    ensures { λ r. ⌜ RowSays (now (text .entry)) at last (now (kept .entry)) (now (made .entry)) to r (now (made .exit)) ⌝ }
+    columns: usize,
+    ends: &mut [usize],
+) -> Size
+    requires { ⌜ ReadReady (now text) at columns (now ends) ⌝ }
+    ensures { λ r. ⌜ RowRead (now (text .entry)) at last columns r (now (ends .exit)) ⌝ }
 {
     let mut i = at;
-    let mut n = to;
     let mut c = 0;
-    while c < kept.len() {
+    while c < columns {
         let found = read_field(text, i);
         let Field::Comma(len) = found else {
-            return strip_last(text, at, last, kept, made, to, found, i, n, c);
+            return read_last(text, at, last, columns, ends, found, i, c);
         };
-        n = keep(text, i, len, kept[c], made, n);
+        ends[c] = i + len;
         i = i + len + 1;
         c += 1;
     }
-    Row::Bad
+    Size::Bad
 }
 
-// The end of a record: its last field, found at a place, with what was made so far.
-fn strip_last(
+// The end of a record: its last field, found at a place behind so many others.
+fn read_last(
     text: &[u8],
     at: usize,
     last: bool,
-    kept: &[bool],
-    made: &mut [u8],
-    to: usize,
+    columns: usize,
+    ends: &mut [usize],
     found: Field,
     i: usize,
-    n: usize,
     c: usize,
-) -> Row
-    requires { ⌜ LastReady (now text) at (now kept) (now made) to found i n c ⌝ }
-    ensures { λ r. ⌜ RowSays (now (text .entry)) at last (now (kept .entry)) (now (made .entry)) to r (now (made .exit)) ⌝ }
+) -> Size
+    requires { ⌜ LastReady (now text) at columns (now ends) found i c ⌝ }
+    ensures { λ r. ⌜ RowRead (now (text .entry)) at last columns r (now (ends .exit)) ⌝ }
 {
     let size = ended(found, last, text.len() - at, c + 1, i - at);
     let Size::Whole(fields, used) = size else {
-        return without(size);
+        return size;
     };
-    if fields != kept.len() {
-        return Row::Bad;
+    if fields != columns {
+        return Size::Bad;
     }
-    let end = keep(text, i, length_of(found), kept[c], made, n);
-    Row::Whole(at + used, end_line(made, to, end))
-}
-
-// What comes of a record that is not whole.
-fn without(size: Size) -> Row
-    ensures { λ r. ⌜ r ≡ withoutRow size ⌝ }
-{
-    match size {
-        Size::More => Row::More,
-        Size::Whole(_, _) => Row::Bad,
-        Size::Bad => Row::Bad,
-    }
+    ends[c] = i + length_of(found);
+    Size::Whole(fields, used)
 }
 
 // How many bytes a field has.
@@ -95,16 +73,40 @@ fn length_of(found: Field) -> usize
     }
 }
 
+// Puts the line of the record at a place, whose fields end at these places.
+pub(crate) fn put_row(
+    text: &[u8],
+    at: usize,
+    ends: &[usize],
+    kept: &[bool],
+    out: &mut [u8],
+    to: usize,
+) -> usize
+    requires { ⌜ PutReady (now text) at (now ends) (length (now kept)) (now out) to ⌝ }
+    ensures { λ r. ⌜ RowPut (now (text .entry)) at (now (ends .entry)) (now (kept .entry)) (now (out .entry)) to r (now (out .exit)) ⌝ }
+{
+    let mut i = at;
+    let mut n = to;
+    let mut c = 0;
+    while c < kept.len() {
+        let end = ends[c];
+        n = keep(text, i, end - i, kept[c], out, n);
+        i = end + 1;
+        c += 1;
+    }
+    end_line(out, to, n)
+}
+
 // Puts a field that is kept, and a comma behind it.
-fn keep(text: &[u8], at: usize, len: usize, kept: bool, made: &mut [u8], to: usize) -> usize
-    requires { ⌜ KeepReady (now text) at len (now made) to ⌝ }
-    ensures { λ r. ⌜ Keeps (now (text .entry)) at len kept (now (made .entry)) to r (now (made .exit)) ⌝ }
+fn keep(text: &[u8], at: usize, len: usize, kept: bool, out: &mut [u8], to: usize) -> usize
+    requires { ⌜ KeepReady (now text) at len (now out) to ⌝ }
+    ensures { λ r. ⌜ Keeps (now (text .entry)) at len kept (now (out .entry)) to r (now (out .exit)) ⌝ }
 {
     if !kept {
         return to;
     }
-    let comma = put(part(text, at, len), made, to);
-    made[comma] = b',';
+    let comma = put(part(text, at, len), out, to);
+    out[comma] = b',';
     comma + 1
 }
 
@@ -117,13 +119,13 @@ fn part(text: &[u8], at: usize, len: usize) -> &[u8]
 }
 
 // Puts the line end of a record: over the comma behind its last field, if it has one that is kept.
-fn end_line(made: &mut [u8], to: usize, n: usize) -> usize
-    requires { ⌜ EndReady (now made) to n ⌝ }
-    ensures { λ r. ⌜ EndsLine (now (made .entry)) to n r (now (made .exit)) ⌝ }
+fn end_line(out: &mut [u8], to: usize, n: usize) -> usize
+    requires { ⌜ EndReady (now out) to n ⌝ }
+    ensures { λ r. ⌜ EndsLine (now (out .entry)) to n r (now (out .exit)) ⌝ }
 {
     if to < n {
-        put(b"\r\n", made, n - 1)
+        put(b"\r\n", out, n - 1)
     } else {
-        put(b"\r\n", made, n)
+        put(b"\r\n", out, n)
     }
 }

@@ -1,28 +1,33 @@
 use Prim.Native.Nat.{_-_}
 use lib.ListN.{length}
 use borrow.Author.Needs.{needs}
-use Rattle.stripping.proofs.Taking.{TakeAt, take-none, take-ready, take-stopped, take-on, take-less, take-end, count-fits}
+use Rattle.stripping.proofs.Taking.{TakeAt, take-none, read-ready, take-stopped, put-ready, place-fits}
+use Rattle.stripping.proofs.Taking.{count-fits, take-less, take-on, take-end}
 use Rattle.stripping.proofs.take.Statement.{statement}
 use Rattle.stripping.proofs.take.Tie as tie
 use Rattle.stripping.proofs.take.Reads as reads
 use Rattle.stripping.proofs.take.Lts as lts
 use Rattle.stripping.proofs.refuses.Reads as refuses-reads
-use Rattle.stripping.proofs.row.strip_row.Reads as strip-row-reads
+use Rattle.stripping.proofs.row.put_row.Reads as put-row-reads
+use Rattle.stripping.proofs.row.read_row.Reads as read-row-reads
 
 abbrev Inv-loop : tie.InvT-loop
-Inv-loop text last kept made₀ at₀ to₀ n₀ made at to n = TakeAt text last kept made₀ made at to n
+Inv-loop text last kept out₀ ends₀ at₀ to₀ n₀ out ends at to n = TakeAt text last kept out₀ out ends at to n
 
 abbrev μ-loop : tie.MeasureT-loop
-μ-loop text last kept made₀ at₀ to₀ n₀ made at to n = length text - at
+μ-loop text last kept out₀ ends₀ at₀ to₀ n₀ out ends at to n = length text - at
 
 loop-holds : tie.Need-loop-holds Inv-loop μ-loop
 loop-holds c = search (take-none, needs)
 
-strip-row-requires : tie.Need-strip-row-requires Inv-loop μ-loop
-strip-row-requires c κs = search (take-ready, needs)
+slice-aggregate-read-row : tie.Need-slice-aggregate-read-row Inv-loop μ-loop
+slice-aggregate-read-row c = search needs
 
-enum-known-found : tie.Need-enum-known-found Inv-loop μ-loop
-enum-known-found c = search needs
+read-row-requires : tie.Need-read-row-requires Inv-loop μ-loop
+read-row-requires c κs = search (read-ready, needs)
+
+enum-known-size : tie.Need-enum-known-size Inv-loop μ-loop
+enum-known-size c = search needs
 
 refuses-requires : tie.Need-refuses-requires Inv-loop μ-loop
 refuses-requires c κs = search needs
@@ -32,6 +37,17 @@ same-length c = search needs
 
 returns : tie.Need-returns Inv-loop μ-loop
 returns c = search (take-stopped, needs)
+
+slice-aggregate-put-row : tie.Need-slice-aggregate-put-row Inv-loop μ-loop
+slice-aggregate-put-row c = search needs
+
+put-row-requires : tie.Need-put-row-requires Inv-loop μ-loop
+put-row-requires c κs =
+    put-ready (c .before .before .before .before .before .before .before .before .before .loop .inv) (search needs)
+    (c .before .before .before .before .before .before .read-row .ensures) (c .before .before .before .size .given .1) (search needs)
+
+add-at : tie.Need-add-at Inv-loop μ-loop
+add-at c = search (place-fits, needs)
 
 add-n : tie.Need-add-n Inv-loop μ-loop
 add-n c = search (count-fits, needs)
@@ -55,11 +71,15 @@ take-spec =
     Inv-loop
     μ-loop
     loop-holds
-    strip-row-requires
-    enum-known-found
+    slice-aggregate-read-row
+    read-row-requires
+    enum-known-size
     refuses-requires
     same-length
     returns
+    slice-aggregate-put-row
+    put-row-requires
+    add-at
     add-n
     loop-less
     loop-again

@@ -16,8 +16,8 @@ part-requires c κs = search needs
 put-requires : tie.Need-put-requires
 put-requires c κs = search needs
 
-slice-write-made : tie.Need-slice-write-made
-slice-write-made c = search (comma-in, needs)
+slice-write-out : tie.Need-slice-write-out
+slice-write-out c = search (comma-in, needs)
 
 add-result : tie.Need-add-result
 add-result c = search (comma-fits, needs)
@@ -31,4 +31,4 @@ returns-2 c = search (keeps-put, needs)
 pub keep-spec : {M : Type 1} → statement M
 keep-spec =
     tie.close
-    (tie.spec returns part-requires put-requires slice-write-made add-result same-length returns-2)
+    (tie.spec returns part-requires put-requires slice-write-out add-result same-length returns-2)

@@ -1,20 +1,18 @@
 use Prim.Native.Nat.{_-_}
-use lib.ListN.{length}
 use borrow.Author.Needs.{needs}
-use Rattle.stripping.proofs.Rowing.{RowAt, row-starts, row-last, row-keep, row-fits, row-fits-on, row-on, row-many, row-since}
-use Rattle.stripping.proofs.row.strip_row.Statement.{statement}
-use Rattle.stripping.proofs.row.strip_row.Tie as tie
-use Rattle.stripping.proofs.row.strip_row.Reads as reads
-use Rattle.stripping.proofs.row.strip_row.Lts as lts
+use Rattle.stripping.proofs.Reading.{RowAt, row-starts, row-last, row-fits, row-fits-on, row-on, row-many}
+use Rattle.stripping.proofs.row.read_row.Statement.{statement}
+use Rattle.stripping.proofs.row.read_row.Tie as tie
+use Rattle.stripping.proofs.row.read_row.Reads as reads
+use Rattle.stripping.proofs.row.read_row.Lts as lts
 use Rattle.records.proofs.read_field.Reads as read-field-reads
-use Rattle.stripping.proofs.row.keep.Reads as keep-reads
-use Rattle.stripping.proofs.row.strip_last.Reads as strip-last-reads
+use Rattle.stripping.proofs.row.read_last.Reads as read-last-reads
 
 abbrev Inv-loop : tie.InvT-loop
-Inv-loop text at last kept made₀ to i₀ n₀ c₀ made i n c = RowAt text at kept made₀ to made i n c
+Inv-loop text at last columns ends₀ i₀ c₀ ends i c = RowAt text at columns ends₀ ends i c
 
 abbrev μ-loop : tie.MeasureT-loop
-μ-loop text at last kept made₀ to i₀ n₀ c₀ made i n c = length kept - c
+μ-loop text at last columns ends₀ i₀ c₀ ends i c = columns - c
 
 loop-holds : tie.Need-loop-holds Inv-loop μ-loop
 loop-holds c = search (row-starts, needs)
@@ -25,20 +23,23 @@ read-field-requires c κs = search needs
 enum-known-found : tie.Need-enum-known-found Inv-loop μ-loop
 enum-known-found c = search needs
 
-strip-last-requires : tie.Need-strip-last-requires Inv-loop μ-loop
-strip-last-requires c κs = search (row-last, needs)
+read-last-requires : tie.Need-read-last-requires Inv-loop μ-loop
+read-last-requires c κs = search (row-last, needs)
 
 same-length : tie.Need-same-length Inv-loop μ-loop
 same-length c = search needs
 
 returns : tie.Need-returns Inv-loop μ-loop
-returns c = row-since (c .before .before .before .before .before .before .before .loop .inv .since) (c .before .before .strip-last .ensures)
+returns c = search needs
 
-shared-slice-read-keep : tie.Need-shared-slice-read-keep Inv-loop μ-loop
-shared-slice-read-keep c = search needs
+add-ends : tie.Need-add-ends Inv-loop μ-loop
+add-ends c = search (row-fits, needs)
 
-keep-requires : tie.Need-keep-requires Inv-loop μ-loop
-keep-requires c κs = search (row-keep, needs)
+mul-ends : tie.Need-mul-ends Inv-loop μ-loop
+mul-ends c = search needs
+
+slice-write-ends : tie.Need-slice-write-ends Inv-loop μ-loop
+slice-write-ends c = search needs
 
 add-i : tie.Need-add-i Inv-loop μ-loop
 add-i c = search (row-fits, needs)
@@ -61,8 +62,8 @@ same-length-2 c = search needs
 returns-2 : tie.Need-returns-2 Inv-loop μ-loop
 returns-2 c = search (row-many, needs)
 
-pub strip-row-spec : {M : Type 1} → statement M
-strip-row-spec =
+pub read-row-spec : {M : Type 1} → statement M
+read-row-spec =
     tie.close
     (tie.spec
     Inv-loop
@@ -70,11 +71,12 @@ strip-row-spec =
     loop-holds
     read-field-requires
     enum-known-found
-    strip-last-requires
+    read-last-requires
     same-length
     returns
-    shared-slice-read-keep
-    keep-requires
+    add-ends
+    mul-ends
+    slice-write-ends
     add-i
     add-i-2
     add-c
