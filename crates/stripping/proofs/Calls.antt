@@ -12,11 +12,10 @@ use lib.ListN.{length, take, drop}
 use borrow.Author.Tests.{ltb-false, ne-eqb}
 use Rattle.records.specs.Rows.{mostFields}
 use Rattle.refusals.specs.Numbers.{mostText}
-use Rattle.puts.specs.Writing.{over}
 use Rattle.puts.proofs.Over.{over-length, take-over}
 use Rattle.exports.specs.Rows.{Taken, taken}
 use Rattle.exports.specs.Reading.{Run, allOf}
-use Rattle.exports.specs.Text.{linesOf, Outcome, strippedFrom, HeldBackApart, Verdict, refused, csvSyntax}
+use Rattle.exports.specs.Text.{Outcome, strippedFrom, HeldBackApart, Verdict, refused, csvSyntax}
 use Rattle.exports.specs.Reading as run
 use Rattle.exports.proofs.Taking.{taken-within}
 use Rattle.exports.proofs.Cuts.{cuts-do-not-matter}

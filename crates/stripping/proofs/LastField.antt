@@ -14,7 +14,7 @@ use mir.Val.{Fits}
 use types.Run.{OneOf}
 use denote.Enum as enum
 use borrow.Author.Tests.{eq-eqb, ne-eqb}
-use Rattle.records.specs.Fields.{fieldAt}
+use Rattle.records.specs.Fields.{fieldLen, fieldAt}
 use Rattle.records.specs.Inner.{Come}
 use Rattle.records.specs.Rows.{Record, whole, more, bad, recordAt, sizeOf, endedBy, mostBytes}
 use Rattle.records.specs.declared.Field.{Field}
@@ -24,7 +24,7 @@ use Rattle.records.proofs.Come.{Ended, come-ended, come-line, come-end}
 use Rattle.records.proofs.Whole.{whole-here}
 use Rattle.records.proofs.Within.{end-within}
 use Rattle.exports.specs.Rows.{recordOf, fitting}
-use Rattle.stripping.specs.Inner.{startAt, fieldsTo, LastReady, WholeRow, RowRead, is-whole, is-more, is-bad, lengthOf}
+use Rattle.stripping.specs.Inner.{startAt, fieldsTo, LastReady, WholeRow, RowRead, is-whole, is-more, is-bad}
 use Rattle.stripping.proofs.Ends.{fields-count, fields-stored, start-stored, lies-stored}
 use Rattle.stripping.proofs.Reading.{rest-is}
 
@@ -60,7 +60,7 @@ not-more true e = let z : _≡_ {A = ℕ} 0 1 = cc in omega arith
 not-more false e = let z : _≡_ {A = ℕ} 0 1 = cc in omega arith
 
 last-is : {most : ℕ} {l : List ℕ} {fs : List (List ℕ)} {k left : ℕ} → Come most l fs k (suc left) → (last : Bool) (f : Field) {c u : ℕ}
-    → fieldAt (drop k l) ≡ f → endedBy last (length l) (length fs + 1) k f ≡ Size.Whole c u → LastIs last most l fs k (lengthOf f) c u
+    → fieldAt (drop k l) ≡ f → endedBy last (length l) (length fs + 1) k f ≡ Size.Whole c u → LastIs last most l fs k (fieldLen f) c u
 last-is p last (Field.Comma n) e g = let z : _≡_ {A = ℕ} 0 1 = cc in absurd (omega arith)
 last-is {l = l} {fs} {k} p last (Field.Line n) e g = record {
   ended = come-line p last e refl g;
@@ -109,20 +109,20 @@ module _ {l : List ℕ} {at columns : ℕ} {ends : List ℕ} {f : Field} {i c : 
       (sized ∙ sym (come-ended come last f here (p .other))) (no-whole s o)
 
   module _ {fields used : ℕ} (g : s ≡ Size.Whole fields used) where
-    is : LastIs last columns (drop at l) (fieldsTo l at ends c) (p .reading .bytes) (lengthOf f) fields used
+    is : LastIs last columns (drop at l) (fieldsTo l at ends c) (p .reading .bytes) (fieldLen f) fields used
     is = last-is come last f here (sym sized ∙ g)
 
     -- All its fields.
     all : List (List ℕ)
-    all = fieldsTo l at ends c ++ take (lengthOf f) (drop i l) ∷ []
+    all = fieldsTo l at ends c ++ take (fieldLen f) (drop i l) ∷ []
 
     found : recordAt last columns (drop at l) ≡ whole all used
     unfolding all
-    found = is .ended .is ∙ ap (λ (x : List ℕ). whole (fieldsTo l at ends c ++ take (lengthOf f) x ∷ []) used) (rest-is (p .reading))
+    found = is .ended .is ∙ ap (λ (x : List ℕ). whole (fieldsTo l at ends c ++ take (fieldLen f) x ∷ []) used) (rest-is (p .reading))
 
     counted : length all ≡ fields
     unfolding all
-    counted = length-append (fieldsTo l at ends c) (take (lengthOf f) (drop i l) ∷ []) ∙ sym (is .ended .count)
+    counted = length-append (fieldsTo l at ends c) (take (fieldLen f) (drop i l) ∷ []) ∙ sym (is .ended .count)
 
     fitted : {t : Bool} → eqb fields columns ≡ t → recordOf last columns (drop at l) ≡ cond t (whole all used) bad
     fitted {t} h = ap (fitting columns) found ∙ ap (λ (x : Bool). cond x (whole all used) bad) (ap (λ (k : ℕ). eqb k columns) counted ∙ h)
@@ -131,14 +131,14 @@ module _ {l : List ℕ} {at columns : ℕ} {ends : List ℕ} {f : Field} {i c : 
     pub last-unlike : (fields ≡ columns → ⊥) → RowRead l at last columns Size.Bad ends
     last-unlike h = is-bad (fitted (ne-eqb fields columns h))
 
-    inside : i + lengthOf f ≤ length l
+    inside : i + fieldLen f ≤ length l
     inside = omega (arith, is .ended .within, length-drop at l, p .reading .place, p .ready .here)
 
-    same : c < length ends → all ≡ fieldsTo l at (set ends c (i + lengthOf f)) (c + 1)
+    same : c < length ends → all ≡ fieldsTo l at (set ends c (i + fieldLen f)) (c + 1)
     unfolding all
-    same there = sym (fields-stored l at ends c (lengthOf f) (p .reading .start) there)
+    same there = sym (fields-stored l at ends c (fieldLen f) (p .reading .start) there)
 
-    module _ {m : ℕ} (w : m ≡ lengthOf f) where
+    module _ {m : ℕ} (w : m ≡ fieldLen f) where
       -- Its end is a number of the machine.
       pub end-fits : length l < 2 ^ 64 → Fits w64 (i + m)
       end-fits h = record { fits = omega (arith, inside, w) }
@@ -146,7 +146,7 @@ module _ {l : List ℕ} {at columns : ℕ} {ends : List ℕ} {f : Field} {i c : 
       -- It is whole, and has all its fields.
       pub last-whole : fields ≡ columns → RowRead l at last columns (Size.Whole fields used) (set ends c (i + m))
       last-whole h = is-whole (subst (λ (k : ℕ). WholeRow l at last columns (set ends c (i + k)) used) (sym w)
-          (subst (λ (k : ℕ). WholeRow l at last k (set ends c (i + lengthOf f)) used) all-read row))
+          (subst (λ (k : ℕ). WholeRow l at last k (set ends c (i + fieldLen f)) used) all-read row))
         where
           all-read : c + 1 ≡ columns
           all-read = omega (arith, h, is .ended .count, count)
@@ -154,15 +154,15 @@ module _ {l : List ℕ} {at columns : ℕ} {ends : List ℕ} {f : Field} {i c : 
           there : c < length ends
           there = omega (arith, p .here, p .ready .room)
 
-          start : startAt at (set ends c (i + lengthOf f)) (c + 1) ≡ i + lengthOf f + 1
-          start = start-stored l at ends c (lengthOf f) (p .reading .start) there
+          start : startAt at (set ends c (i + fieldLen f)) (c + 1) ≡ i + fieldLen f + 1
+          start = start-stored l at ends c (fieldLen f) (p .reading .start) there
 
-          row : WholeRow l at last (c + 1) (set ends c (i + lengthOf f)) used
+          row : WholeRow l at last (c + 1) (set ends c (i + fieldLen f)) used
           row = record {
             found =
-                subst (λ (k : ℕ). recordOf last k (drop at l) ≡ whole (fieldsTo l at (set ends c (i + lengthOf f)) (c + 1)) used) (sym all-read)
+                subst (λ (k : ℕ). recordOf last k (drop at l) ≡ whole (fieldsTo l at (set ends c (i + fieldLen f)) (c + 1)) used) (sym all-read)
                 (fitted (eq-eqb fields columns h) ∙ ap (λ (x : List (List ℕ)). whole x used) (same there));
-            lies = lies-stored l at ends c (lengthOf f) (p .reading .start) there (p .reading .lies) inside;
+            lies = lies-stored l at ends c (fieldLen f) (p .reading .start) there (p .reading .lies) inside;
             least = omega (arith, start, is .least, p .reading .place);
             line = λ v. omega (arith, start, is .line (omega (arith, v, length-drop at l)), p .reading .place);
             within = omega (arith, whole-here last columns (drop at l) found .within, length-drop at l, p .ready .here);

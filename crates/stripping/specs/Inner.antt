@@ -84,14 +84,6 @@ pub data RowRead (l : List ℕ) (at : ℕ) (last : Bool) (columns : ℕ) : Size 
   is-more : {ends : List ℕ} → recordOf last columns (drop at l) ≡ more → RowRead l at last columns Size.More ends
   is-bad : {ends : List ℕ} → recordOf last columns (drop at l) ≡ bad → RowRead l at last columns Size.Bad ends
 
--- The bytes of a field.
-abbrev pub lengthOf : Field → ℕ
-lengthOf (Field.Comma n) = n
-lengthOf (Field.Line n) = n
-lengthOf (Field.End n) = n
-lengthOf Field.Open = 0
-lengthOf Field.Bad = 0
-
 -- The line of a record is to be put whose fields end at these places.
 pub record PutReady (l : List ℕ) (at : ℕ) (ends : List ℕ) (columns : ℕ) (d : List ℕ) (to : ℕ) : Type 0 where
   pub spacious : Spacious l d

@@ -2,6 +2,7 @@
 mod row;
 
 use puts::put;
+use records::CSV_SYNTAX;
 use records::MOST_FIELDS;
 use records::Size;
 use refusals::MOST_TEXT;
@@ -12,9 +13,6 @@ ghost use mathlib.Core.Bool.{_&&_};
 ghost use lib.Dec.{eqb};
 ghost use Rattle.stripping.specs.Stripping.{StripSays};
 ghost use Rattle.stripping.specs.Inner.{FrontSays, TakeReady, ShortReady, isBad};
-
-// The numbers of refusal for a bad record and for a bad header.
-pub const CSV_SYNTAX: u64 = 16;
 
 // The most bytes that are made of a text: a last record may lack its line end.
 const MOST_MADE: usize = 32770;

@@ -3,11 +3,12 @@ use puts::put;
 use records::Field;
 use records::Size;
 use records::ended;
+use records::field_len;
 use records::read_field;
 ghost use mathlib.Core.Path.{_≡_};
 ghost use Prim.Native.Nat.{_+_, _≤_};
 ghost use lib.ListN.{length, take, drop};
-ghost use Rattle.stripping.specs.Inner.{ReadReady, RowRead, LastReady, lengthOf};
+ghost use Rattle.stripping.specs.Inner.{ReadReady, RowRead, LastReady};
 ghost use Rattle.stripping.specs.Inner.{PutReady, RowPut, KeepReady, Keeps, EndReady, EndsLine};
 
 // Finds the record at a place, with so many columns, and where each of its fields ends. Only of a whole record the ends count.
@@ -56,21 +57,8 @@ fn read_last(
     if fields != columns {
         return Size::Bad;
     }
-    ends[c] = i + length_of(found);
+    ends[c] = i + field_len(found);
     Size::Whole(fields, used)
-}
-
-// How many bytes a field has.
-fn length_of(found: Field) -> usize
-    ensures { λ r. ⌜ r ≡ lengthOf found ⌝ }
-{
-    match found {
-        Field::Comma(len) => len,
-        Field::Line(len) => len,
-        Field::End(len) => len,
-        Field::Open => 0,
-        Field::Bad => 0,
-    }
 }
 
 // Puts the line of the record at a place, whose fields end at these places.

@@ -5,7 +5,7 @@ use Rattle.stripping.proofs.row.read_last.Tie as tie
 use Rattle.stripping.proofs.row.read_last.Reads as reads
 use Rattle.stripping.proofs.row.read_last.Lts as lts
 use Rattle.records.proofs.ended.Reads as ended-reads
-use Rattle.stripping.proofs.row.length_of.Reads as length-of-reads
+use Rattle.records.proofs.field_len.Reads as field-len-reads
 
 sub-ended : tie.Need-sub-ended
 sub-ended c = search needs
@@ -28,8 +28,8 @@ returns c = search (last-none, needs)
 returns-2 : tie.Need-returns-2
 returns-2 c = search (last-unlike, needs)
 
-length-of-requires : tie.Need-length-of-requires
-length-of-requires c κs = search needs
+field-len-requires : tie.Need-field-len-requires
+field-len-requires c κs = search needs
 
 add-ends : tie.Need-add-ends
 add-ends c = search (end-fits, needs)
@@ -57,7 +57,7 @@ read-last-spec =
     enum-known-size
     returns
     returns-2
-    length-of-requires
+    field-len-requires
     add-ends
     mul-ends
     slice-write-ends
