@@ -44,7 +44,7 @@ runs-leave (strips {after = after} {n} last only p calls) =
 -- A piece that is as long as the program reads holds the whole header, so that more is never asked for.
 pub more-short : {book class l : List ℕ} {last : Bool} {before after : List Bool} → ColumnsSays book class l last before Columns.More after
     → length l < mostBytes + 2
-more-short (headed levels marks e x y (more-header h)) = header-short _ _ h
+more-short {l = l} {last} (headed levels marks e x y (more-header h)) = header-short last l h
 
 -- The columns that are kept are the same whenever they are asked for.
 pub kept-unique : {before : List Bool} {book class export : List ℕ} {k m : List Bool} → KeptIn before book class export k → KeptIn before book class export m
