@@ -11,7 +11,7 @@ use lib.ListN.{length, drop, length-drop, drop-of-length-le}
 use lib.Seq.{drop-drop}
 use Rattle.records.specs.Rows.{whole, more, bad}
 use Rattle.exports.specs.Rows.{recordOf, Taken, stopped, onTop, taken}
-use Rattle.exports.specs.Reading.{Gone}
+use Rattle.exports.specs.Inner.{Gone}
 use Rattle.exports.proofs.Fitting.{record-within}
 use Rattle.exports.proofs.Taking.{taken-nothing, taken-whole, taken-more, taken-bad}
 

@@ -7,7 +7,8 @@ use mathlib.Core.List.{List, [], _∷_, _++_, append-assoc, append-nil}
 use Prim.Native.Nat.{ℕ, _≤_, _<_}
 use native.Mathlib.Omega.{arith}
 use lib.ListN.{length, getD, length-append}
-use Rattle.exports.specs.Text.{keptOf, commaed, closedEach, joined, lineOf, linesOf}
+use Rattle.exports.specs.Text.{keptOf, commaed, joined, lineOf, linesOf}
+use Rattle.exports.specs.Inner.{closedEach}
 
 -- No field, no record.
 pub closed-none : closedEach [] ≡ []

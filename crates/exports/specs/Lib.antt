@@ -3,3 +3,4 @@ pub mod Names
 pub mod Rows
 pub mod Text
 pub mod Reading
+pub mod Inner

@@ -3,7 +3,7 @@
 use mathlib.Core.Path.{_≡_}
 use mathlib.Core.Bool.{Bool, true, false}
 use mathlib.Core.List.{List, [], _∷_, _++_}
-use Prim.Native.Nat.{ℕ, _+_, _≤_}
+use Prim.Native.Nat.{ℕ, _+_}
 use lib.ListN.{length, drop}
 use Rattle.exports.specs.Rows.{taken}
 use Rattle.exports.specs.Text.{linesOf, Verdict, accepted, refused, csvSyntax}
@@ -30,12 +30,3 @@ pub data Run (kept : List Bool) : ℕ → List ℕ → List (List ℕ) → List 
       Run kept number held pieces [] (refused csvSyntax number)
   done : {number : ℕ} {held : List ℕ} →
       taken true (length kept) held .rows ≡ [] → taken true (length kept) held .faulty ≡ false → Run kept number held [] [] accepted
-
--- Taking records from the front of l has come to the place `at`, past these rows.
-pub record Gone (last : Bool) (columns : ℕ) (l : List ℕ) (rows : List (List (List ℕ))) (at : ℕ) : Type 0 where
-  pub rest : taken last columns l ≡ record {
-    rows = rows ++ taken last columns (drop at l) .rows;
-    used = at + taken last columns (drop at l) .used;
-    faulty = taken last columns (drop at l) .faulty;
-  }
-  pub within : at ≤ length l

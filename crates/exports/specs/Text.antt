@@ -22,11 +22,6 @@ unfoldable pub joined : List (List ℕ) → List ℕ
 joined [] = []
 joined (f ∷ fs) = f ++ commaed fs
 
--- Each field with a comma behind it, one after the other.
-unfoldable pub closedEach : List (List ℕ) → List ℕ
-closedEach [] = []
-closedEach (f ∷ fs) = f ++ 44 ∷ closedEach fs
-
 -- "Each record written ends with CRLF (alone, where no column is kept)."
 abbrev pub lineOf : List Bool → List (List ℕ) → List ℕ
 lineOf kept fs = joined (keptOf kept fs) ++ 13 ∷ 10 ∷ []

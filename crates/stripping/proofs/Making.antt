@@ -13,7 +13,8 @@ use mir.Val.{Fits}
 use borrow.Author.Tests.{lt-ltb, le-ltb}
 use Rattle.puts.specs.Writing.{over, Put}
 use Rattle.puts.proofs.Over.{over-is, over-none, set-over, over-length, take-over, drop-over, over-over, put-buffer, put-next}
-use Rattle.exports.specs.Text.{closedEach, joined}
+use Rattle.exports.specs.Text.{joined}
+use Rattle.exports.specs.Inner.{closedEach}
 use Rattle.exports.proofs.Joining.{closed-joined}
 use Rattle.stripping.specs.Inner.{Made, KeepReady, Keeps, linePlace, EndReady, EndsLine}
 

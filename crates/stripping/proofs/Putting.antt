@@ -11,7 +11,8 @@ use lib.ListN.{length, take, drop, getD, length-append, length-drop}
 use lib.Seq.{length-take-le}
 use mir.Syntax.{w64}
 use mir.Val.{Fits}
-use Rattle.exports.specs.Text.{closedEach, keptOf, joined, lineOf}
+use Rattle.exports.specs.Text.{keptOf, joined, lineOf}
+use Rattle.exports.specs.Inner.{closedEach}
 use Rattle.exports.proofs.Joining.{closed-none, closed-one-more, kept-none, kept-one-more}
 use Rattle.stripping.specs.Inner.{Made, startAt, fieldsTo, PutReady, RowPut, keptField, KeepReady, Keeps, EndReady, EndsLine}
 use Rattle.stripping.proofs.Making.{made-none, made-made, made-size, joined-most, line-made, line-next}

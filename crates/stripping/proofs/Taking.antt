@@ -19,7 +19,7 @@ use Rattle.records.specs.Rows.{mostFields}
 use Rattle.records.specs.declared.Size.{Size}
 use Rattle.records.proofs.Size as size
 use Rattle.exports.specs.Rows.{Taken, taken}
-use Rattle.exports.specs.Reading.{Gone}
+use Rattle.exports.specs.Inner.{Gone}
 use Rattle.exports.specs.Text.{linesOf, lineOf}
 use Rattle.exports.proofs.Gone.{gone-start, gone-on, gone-end, gone-more, gone-bad}
 use Rattle.exports.proofs.Joining.{lines-none, lines-one-more}
