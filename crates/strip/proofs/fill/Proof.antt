@@ -1,13 +1,10 @@
+-- `fill` meets its contract. Assumes nothing.
 use mathlib.Core.Path.{_≡_}
 use Prim.Native.Nat.{_≤_, _-_}
 use lib.ListN.{length}
 use borrow.Author.Needs.{needs}
 use Rattle.strip.proofs.fill.Statement.{statement}
 use Rattle.strip.proofs.fill.Tie as tie
-use Rattle.strip.proofs.fill.Reads as reads
-use Rattle.strip.proofs.fill.Lts as lts
-use Rattle.io.proofs.count.Reads as count-reads
-use Rattle.libc.proofs.read.Reads as read-reads
 
 abbrev Inv-loop : tie.InvT-loop
 Inv-loop fd buf₀ from have₀ buf have = (have ≤ length buf) × (length buf ≡ length buf₀)

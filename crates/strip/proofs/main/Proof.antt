@@ -1,19 +1,8 @@
+-- `main` meets its contract. Assumes nothing.
 use borrow.Author.Needs.{needs}
 use Rattle.strip.proofs.Inside.{long-prefix}
 use Rattle.strip.proofs.main.Statement.{statement}
 use Rattle.strip.proofs.main.Tie as tie
-use Rattle.strip.proofs.main.Reads as reads
-use Rattle.strip.proofs.main.Lts as lts
-use Rattle.io.proofs.buffer.Reads as buffer-reads
-use Rattle.io.proofs.write_all.Reads as write-all-reads
-use Rattle.libc.proofs.close.Reads as close-reads
-use Rattle.os.proofs.arg.Reads as arg-reads
-use Rattle.os.proofs.arg_count.Reads as arg-count-reads
-use Rattle.os.proofs.errno.Reads as errno-reads
-use Rattle.os.proofs.fail.Reads as fail-reads
-use Rattle.os.proofs.open_read.Reads as open-read-reads
-use Rattle.strip.proofs.fill.Reads as fill-reads
-use Rattle.strip.proofs.run.Reads as run-reads
 
 arg-count-requires : tie.Need-arg-count-requires
 arg-count-requires c κs = search needs

@@ -1,11 +1,10 @@
+-- `move_down` meets its contract. Assumes nothing.
 use mathlib.Core.Path.{_≡_}
 use Prim.Native.Nat.{_≤_, _-_}
 use lib.ListN.{length}
 use borrow.Author.Needs.{needs}
 use Rattle.strip.proofs.move_down.Statement.{statement}
 use Rattle.strip.proofs.move_down.Tie as tie
-use Rattle.strip.proofs.move_down.Reads as reads
-use Rattle.strip.proofs.move_down.Lts as lts
 
 abbrev Inv-loop : tie.InvT-loop
 Inv-loop buf₀ used have rest i₀ buf i = (i ≤ rest) × (length buf ≡ length buf₀)

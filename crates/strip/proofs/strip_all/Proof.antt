@@ -1,12 +1,10 @@
+-- `strip_all` meets its contract. Assumes nothing.
 use mathlib.Core.Path.{_≡_}
 use Prim.Native.Nat.{_≤_}
 use lib.ListN.{length}
 use borrow.Author.Needs.{needs}
 use Rattle.strip.proofs.strip_all.Statement.{statement}
 use Rattle.strip.proofs.strip_all.Tie as tie
-use Rattle.strip.proofs.strip_all.Reads as reads
-use Rattle.strip.proofs.strip_all.Lts as lts
-use Rattle.strip.proofs.strip_some.Reads as strip-some-reads
 
 abbrev Inv-loop : tie.InvT-loop
 Inv-loop kept buf₀ have last out₀ place₀ turns₀ buf out place turns = (place .have ≤ length buf) × (length buf ≡ length buf₀) × (32770 ≡ length out)

@@ -1,14 +1,8 @@
+-- `strip_export` meets its contract. Assumes nothing.
 use borrow.Author.Needs.{needs}
 use Rattle.strip.proofs.Inside.{long-prefix, kept-inside, kept-long}
 use Rattle.strip.proofs.strip_export.Statement.{statement}
 use Rattle.strip.proofs.strip_export.Tie as tie
-use Rattle.strip.proofs.strip_export.Reads as reads
-use Rattle.strip.proofs.strip_export.Lts as lts
-use Rattle.columns.proofs.kept_columns.Reads as kept-columns-reads
-use Rattle.os.proofs.fail.Reads as fail-reads
-use Rattle.strip.proofs.fill.Reads as fill-reads
-use Rattle.strip.proofs.refuse.Reads as refuse-reads
-use Rattle.strip.proofs.strip_all.Reads as strip-all-reads
 
 slice-aggregate-fill : tie.Need-slice-aggregate-fill
 slice-aggregate-fill c = search needs

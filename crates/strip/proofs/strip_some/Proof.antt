@@ -1,15 +1,8 @@
+-- `strip_some` meets its contract. Assumes nothing.
 use borrow.Author.Needs.{needs}
 use Rattle.strip.proofs.Inside.{long-prefix, written-within, written-long, taken-held}
 use Rattle.strip.proofs.strip_some.Statement.{statement}
 use Rattle.strip.proofs.strip_some.Tie as tie
-use Rattle.strip.proofs.strip_some.Reads as reads
-use Rattle.strip.proofs.strip_some.Lts as lts
-use Rattle.io.proofs.write_all.Reads as write-all-reads
-use Rattle.os.proofs.fail.Reads as fail-reads
-use Rattle.strip.proofs.go_on.Reads as go-on-reads
-use Rattle.strip.proofs.refuse.Reads as refuse-reads
-use Rattle.strip.proofs.stopped.Reads as stopped-reads
-use Rattle.stripping.proofs.strip.Reads as strip-reads
 
 slice-reshare-prefix-strip : tie.Need-slice-reshare-prefix-strip
 slice-reshare-prefix-strip c = search needs

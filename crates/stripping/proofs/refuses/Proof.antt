@@ -1,9 +1,8 @@
+-- `refuses` meets its contract. Assumes nothing.
 use borrow.Author.Needs.{needs}
 use Rattle.stripping.proofs.Taking.{refuses-later, refuses-bad, refuses-more, refuses-whole}
 use Rattle.stripping.proofs.refuses.Statement.{statement}
 use Rattle.stripping.proofs.refuses.Tie as tie
-use Rattle.stripping.proofs.refuses.Reads as reads
-use Rattle.stripping.proofs.refuses.Lts as lts
 
 returns : tie.Need-returns
 returns c = search (refuses-later, needs)

@@ -1,11 +1,8 @@
+-- `strip` meets its contract. Assumes nothing.
 use borrow.Author.Needs.{needs}
 use Rattle.stripping.proofs.Says.{says-long, says-wide, straight-refused, straight-text}
 use Rattle.stripping.proofs.strip.Statement.{statement}
 use Rattle.stripping.proofs.strip.Tie as tie
-use Rattle.stripping.proofs.strip.Reads as reads
-use Rattle.stripping.proofs.strip.Lts as lts
-use Rattle.stripping.proofs.strip_short.Reads as strip-short-reads
-use Rattle.stripping.proofs.take.Reads as take-reads
 
 returns : tie.Need-returns
 returns c = search (says-long, needs)

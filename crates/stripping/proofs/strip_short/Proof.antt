@@ -1,11 +1,8 @@
+-- `strip_short` meets its contract. Assumes nothing.
 use borrow.Author.Needs.{needs}
 use Rattle.stripping.proofs.Says.{front-within, front-long, says-refused, says-no-room, says-text}
 use Rattle.stripping.proofs.strip_short.Statement.{statement}
 use Rattle.stripping.proofs.strip_short.Tie as tie
-use Rattle.stripping.proofs.strip_short.Reads as reads
-use Rattle.stripping.proofs.strip_short.Lts as lts
-use Rattle.puts.proofs.put.Reads as put-reads
-use Rattle.stripping.proofs.take.Reads as take-reads
 
 slice-aggregate-take : tie.Need-slice-aggregate-take
 slice-aggregate-take c = search needs

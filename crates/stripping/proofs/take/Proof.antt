@@ -1,3 +1,4 @@
+-- `take` meets its contract. Assumes nothing.
 use Prim.Native.Nat.{_-_}
 use lib.ListN.{length}
 use borrow.Author.Needs.{needs}
@@ -5,11 +6,6 @@ use Rattle.stripping.proofs.Taking.{TakeAt, take-none, read-ready, take
 use Rattle.stripping.proofs.Taking.{count-fits, take-less, take-on, take-end}
 use Rattle.stripping.proofs.take.Statement.{statement}
 use Rattle.stripping.proofs.take.Tie as tie
-use Rattle.stripping.proofs.take.Reads as reads
-use Rattle.stripping.proofs.take.Lts as lts
-use Rattle.stripping.proofs.refuses.Reads as refuses-reads
-use Rattle.stripping.proofs.row.put_row.Reads as put-row-reads
-use Rattle.stripping.proofs.row.read_row.Reads as read-row-reads
 
 abbrev Inv-loop : tie.InvT-loop
 Inv-loop text last kept out₀ ends₀ at₀ to₀ n₀ out ends at to n = TakeAt text last kept out₀ out ends at to n

@@ -1,10 +1,8 @@
+-- `end_line` meets its contract. Assumes nothing.
 use borrow.Author.Needs.{needs}
 use Rattle.stripping.proofs.Making.{ends-over, ends-here}
 use Rattle.stripping.proofs.row.end_line.Statement.{statement}
 use Rattle.stripping.proofs.row.end_line.Tie as tie
-use Rattle.stripping.proofs.row.end_line.Reads as reads
-use Rattle.stripping.proofs.row.end_line.Lts as lts
-use Rattle.puts.proofs.put.Reads as put-reads
 
 slice-aggregate-put : tie.Need-slice-aggregate-put
 slice-aggregate-put c = search needs

@@ -1,11 +1,8 @@
+-- `keep` meets its contract. Assumes nothing.
 use borrow.Author.Needs.{needs}
 use Rattle.stripping.proofs.Making.{keeps-none, keeps-put, comma-in, comma-fits}
 use Rattle.stripping.proofs.row.keep.Statement.{statement}
 use Rattle.stripping.proofs.row.keep.Tie as tie
-use Rattle.stripping.proofs.row.keep.Reads as reads
-use Rattle.stripping.proofs.row.keep.Lts as lts
-use Rattle.puts.proofs.put.Reads as put-reads
-use Rattle.stripping.proofs.row.part.Reads as part-reads
 
 returns : tie.Need-returns
 returns c = search (keeps-none, needs)

@@ -1,9 +1,8 @@
+-- `part` meets its contract. Assumes nothing.
 use borrow.Author.Needs.{needs}
 use Rattle.stripping.proofs.Making.{part-is}
 use Rattle.stripping.proofs.row.part.Statement.{statement}
 use Rattle.stripping.proofs.row.part.Tie as tie
-use Rattle.stripping.proofs.row.part.Reads as reads
-use Rattle.stripping.proofs.row.part.Lts as lts
 
 add-result : tie.Need-add-result
 add-result c = search needs

@@ -1,13 +1,10 @@
+-- `put_row` meets its contract. Assumes nothing.
 use Prim.Native.Nat.{_-_}
 use lib.ListN.{length}
 use borrow.Author.Needs.{needs}
 use Rattle.stripping.proofs.Putting.{PutAt, put-starts, end-there, end-behind, keep-ready, behind-fits, put-on, line-ready, put-ends}
 use Rattle.stripping.proofs.row.put_row.Statement.{statement}
 use Rattle.stripping.proofs.row.put_row.Tie as tie
-use Rattle.stripping.proofs.row.put_row.Reads as reads
-use Rattle.stripping.proofs.row.put_row.Lts as lts
-use Rattle.stripping.proofs.row.end_line.Reads as end-line-reads
-use Rattle.stripping.proofs.row.keep.Reads as keep-reads
 
 abbrev Inv-loop : tie.InvT-loop
 Inv-loop text at ends kept out₀ to i₀ n₀ c₀ out i n c = PutAt text at ends kept out₀ to out i n c

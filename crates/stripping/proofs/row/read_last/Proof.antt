@@ -1,11 +1,8 @@
+-- `read_last` meets its contract. Assumes nothing.
 use borrow.Author.Needs.{needs}
 use Rattle.stripping.proofs.LastField.{last-none, last-unlike, end-fits, last-whole}
 use Rattle.stripping.proofs.row.read_last.Statement.{statement}
 use Rattle.stripping.proofs.row.read_last.Tie as tie
-use Rattle.stripping.proofs.row.read_last.Reads as reads
-use Rattle.stripping.proofs.row.read_last.Lts as lts
-use Rattle.records.proofs.ended.Reads as ended-reads
-use Rattle.records.proofs.field_len.Reads as field-len-reads
 
 sub-ended : tie.Need-sub-ended
 sub-ended c = search needs

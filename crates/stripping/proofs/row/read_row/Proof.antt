@@ -1,12 +1,9 @@
+-- `read_row` meets its contract. Assumes nothing.
 use Prim.Native.Nat.{_-_}
 use borrow.Author.Needs.{needs}
 use Rattle.stripping.proofs.Reading.{RowAt, row-starts, row-last, row-fits, row-fits-on, row-on, row-many}
 use Rattle.stripping.proofs.row.read_row.Statement.{statement}
 use Rattle.stripping.proofs.row.read_row.Tie as tie
-use Rattle.stripping.proofs.row.read_row.Reads as reads
-use Rattle.stripping.proofs.row.read_row.Lts as lts
-use Rattle.records.proofs.read_field.Reads as read-field-reads
-use Rattle.stripping.proofs.row.read_last.Reads as read-last-reads
 
 abbrev Inv-loop : tie.InvT-loop
 Inv-loop text at last columns ends₀ i₀ c₀ ends i c = RowAt text at columns ends₀ ends i c
