@@ -50,7 +50,7 @@ def main():
     if len(sys.argv) > 3 or not all(word.isdigit() for word in sys.argv[1:]):
         print("usage: tests/second/compare.py [COUNT] [SEED]", file=sys.stderr)
         return 2
-    count, seed = [int(word) for word in sys.argv[1:]] + [3000, 1][len(sys.argv) - 1 :]
+    count, seed = [int(word) for word in sys.argv[1:]] + [2000, 1][len(sys.argv) - 1 :]
     if not os.path.isfile(PROGRAM):
         print("no program to compare with: run 'rt check label' first")
         print("0 passed, 1 failed")
