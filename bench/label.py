@@ -128,7 +128,7 @@ def compiler():
     return [name] if shutil.which(name) else None
 
 
-def build(room, source=SOURCE):
+def build(room, source):
     """The C program, built into a directory, or None."""
     command = compiler()
     if command is None:
@@ -233,14 +233,20 @@ def write_texts(directory):
         print(f"{number}.book: {name}")
 
 
+def laid(room, program, source):
+    """A copy of a built program and, where there is a compiler, the C program beside it, in a folder in which everybody can run them."""
+    os.chmod(room, 0o755)
+    programs = [shutil.copy(program, room), build(room, source)]
+    programs = [path for path in programs if path]
+    for path in programs:
+        os.chmod(path, 0o755)
+    return programs
+
+
 def bench(runs):
     all_texts = texts()
     with tempfile.TemporaryDirectory() as room:
-        os.chmod(room, 0o755)
-        programs = [shutil.copy(PROGRAM, os.path.join(room, "label")), build(room)]
-        programs = [program for program in programs if program]
-        for program in programs:
-            os.chmod(program, 0o755)
+        programs = laid(room, PROGRAM, SOURCE)
         runner = Runner(room)
         if not equal_outputs(runner, programs, all_texts + [("a book with no items", EMPTY)]):
             return 1

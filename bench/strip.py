@@ -23,7 +23,7 @@ import time
 
 sys.dont_write_bytecode = True
 sys.path.insert(0, os.path.join(os.path.dirname(os.path.dirname(os.path.abspath(__file__))), "tests"))
-from label import build, spent_by_children  # noqa: E402
+from label import laid, spent_by_children  # noqa: E402
 from program import unread  # noqa: E402
 
 PROGRAM = os.path.join("target", "bin", "strip")
@@ -236,11 +236,7 @@ def print_memory(runner, programs):
 
 def bench(runs):
     with tempfile.TemporaryDirectory() as room:
-        os.chmod(room, 0o755)
-        programs = [shutil.copy(PROGRAM, os.path.join(room, "strip")), build(room, SOURCE)]
-        programs = [program for program in programs if program]
-        for program in programs:
-            os.chmod(program, 0o755)
+        programs = laid(room, PROGRAM, SOURCE)
         runner = Runner(room)
         if not print_speeds(runner, programs, runs):
             return 1

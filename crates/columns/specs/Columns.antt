@@ -51,7 +51,7 @@ pub data HeaderSays (t : List ℕ) (n : ℕ) (labels : ℕ → Class) (reader : 
   bad-names : {fs : List (List ℕ)} {k : ℕ} → headerAt last export ≡ whole fs k → (HeaderOk t n fs → ⊥) →
       HeaderSays t n labels reader export last before (Columns.Refused csvHeader 1) before
   no-room : {fs : List (List ℕ)} {k : ℕ} → headerAt last export ≡ whole fs k → HeaderOk t n fs → length before < length fs →
-      HeaderSays t n labels reader export last before (Columns.Refused 11 0) before
+      HeaderSays t n labels reader export last before (Columns.Refused (faultNumber Fault.NoRoom) 0) before
   keeps : {fs : List (List ℕ)} {k : ℕ} {kept : List Bool} → headerAt last export ≡ whole fs k → HeaderOk t n fs → length fs ≤ length before →
       KeepsCovered t n labels reader fs kept →
       HeaderSays t n labels reader export last before (Columns.Kept (length fs)) (kept ++ drop (length fs) before)
@@ -61,10 +61,10 @@ pub data ColumnsSays (book class export : List ℕ) (last : Bool) (before : List
   unread : {f : Fault} {p : ℕ} → readWhole book ≡ ReadBook.Refused f p →
       ColumnsSays book class export last before (Columns.Refused (faultNumber f) p) before
   unlabelled : {n m p : ℕ} → readWhole book ≡ ReadBook.Book n m → Refused classParts (bookOf (readText book .words) m n) p →
-      ColumnsSays book class export last before (Columns.Refused 9 p) before
+      ColumnsSays book class export last before (Columns.Refused (faultNumber Fault.NoLabelling) p) before
   no-class : {n m : ℕ} (levels marks : List ℕ) → readWhole book ≡ ReadBook.Book n m →
       Wanted classes (bookOf (readText book .words) m n) (labelsIn levels marks) → readerOf class ≡ unknown →
-      ColumnsSays book class export last before (Columns.Refused 12 0) before
+      ColumnsSays book class export last before (Columns.Refused (faultNumber Fault.BadLabel) 0) before
   headed : {n m : ℕ} (levels marks : List ℕ) {reader : Class} {r : Columns} {after : List Bool} → readWhole book ≡ ReadBook.Book n m →
       Wanted classes (bookOf (readText book .words) m n) (labelsIn levels marks) → readerOf class ≡ known reader →
       HeaderSays (readText book .names) n (labelsIn levels marks) reader export last before r after →

@@ -14,6 +14,8 @@ use Rattle.labelling.specs.Parts.{Refused}
 use Rattle.items.specs.declared.Found.{Found}
 use Rattle.rules.specs.Record.{labelsIn}
 use Rattle.rules.specs.Table.{bookOf}
+use Rattle.refusals.specs.Numbers.{faultNumber}
+use Rattle.refusals.specs.declared.Fault.{Fault}
 use Rattle.records.specs.Fields.{fieldLen, quote, fieldAt}
 use Rattle.records.specs.Rows.{Row, line, ends, cut, broken, rowOf, whole, more, bad, mostBytes, mostFields}
 use Rattle.exports.specs.Names.{columnItem, HeaderOk}
@@ -115,20 +117,20 @@ pub record Covering (labels : ℕ → Class) (reader : Class) (numbers : List �
 -- The same as an answer: the number of the columns, or 11 at 0.
 pub data KeepSays (labels : ℕ → Class) (reader : Class) (numbers : List ℕ) (fields : ℕ) (before : List Bool)
     : Columns → List Bool → Type 0 where
-  roomless : length before < fields → KeepSays labels reader numbers fields before (Columns.Refused 11 0) before
+  roomless : length before < fields → KeepSays labels reader numbers fields before (Columns.Refused (faultNumber Fault.NoRoom) 0) before
   covers : {after : List Bool} → fields ≤ length before → Covering labels reader numbers fields before after →
       KeepSays labels reader numbers fields before (Columns.Kept fields) after
 
 -- What is said of items with these names and labels: 12 at 0, or what their header says.
 pub data ClassSays (t : List ℕ) (n : ℕ) (labels : ℕ → Class) (class export : List ℕ) (last : Bool) (before : List Bool)
     : Columns → List Bool → Type 0 where
-  classless : readerOf class ≡ unknown → ClassSays t n labels class export last before (Columns.Refused 12 0) before
+  classless : readerOf class ≡ unknown → ClassSays t n labels class export last before (Columns.Refused (faultNumber Fault.BadLabel) 0) before
   classed : {reader : Class} {r : Columns} {after : List Bool} → readerOf class ≡ known reader →
       HeaderSays t n labels reader export last before r after → ClassSays t n labels class export last before r after
 
 -- What is said of a book with right tables: 9 at the part that is refused, or what is said of its items with the wanted labels.
 pub data LabelSays (t : List ℕ) (n : ℕ) (w : List ℕ) (m : ℕ) (class export : List ℕ) (last : Bool) (before : List Bool)
     : Columns → List Bool → Type 0 where
-  no-labels : {p : ℕ} → Refused classParts (bookOf w m n) p → LabelSays t n w m class export last before (Columns.Refused 9 p) before
+  no-labels : {p : ℕ} → Refused classParts (bookOf w m n) p → LabelSays t n w m class export last before (Columns.Refused (faultNumber Fault.NoLabelling) p) before
   with-labels : (levels marks : List ℕ) {r : Columns} {after : List Bool} → Wanted classes (bookOf w m n) (labelsIn levels marks) →
       ClassSays t n (labelsIn levels marks) class export last before r after → LabelSays t n w m class export last before r after

@@ -28,7 +28,7 @@ unquoted (b ∷ l) = cond (eqb b quote) (undoubled l) (b ∷ l)
 abbrev pub nameIn : List (List ℕ) → ℕ → List ℕ
 nameIn fs c = unquoted (getD fs c [])
 
--- Column c is item i.
+-- What looking up the name of column c answers.
 abbrev pub columnItem : List ℕ → ℕ → List (List ℕ) → ℕ → Found
 columnItem t n fs c = findIn t n (nameIn fs c)
 

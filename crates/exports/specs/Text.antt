@@ -5,6 +5,7 @@ use mathlib.Core.Bool.{Bool, true, false, cond}
 use mathlib.Core.List.{List, [], _∷_, _++_}
 use Prim.Native.Nat.{ℕ, _+_, _<_}
 use lib.ListN.{length, getD}
+use Rattle.records.specs.Fields.{comma, cr, lf}
 use Rattle.exports.specs.Rows.{taken}
 
 -- Of each record the columns that are kept, in order.
@@ -16,7 +17,7 @@ keptOf (k ∷ ks) (f ∷ fs) = cond k (f ∷ keptOf ks fs) (keptOf ks fs)
 -- Fields "with commas between them".
 unfoldable pub commaed : List (List ℕ) → List ℕ
 commaed [] = []
-commaed (f ∷ fs) = 44 ∷ f ++ commaed fs
+commaed (f ∷ fs) = comma ∷ f ++ commaed fs
 
 unfoldable pub joined : List (List ℕ) → List ℕ
 joined [] = []
@@ -24,7 +25,7 @@ joined (f ∷ fs) = f ++ commaed fs
 
 -- "Each record written ends with CRLF (alone, where no column is kept)."
 abbrev pub lineOf : List Bool → List (List ℕ) → List ℕ
-lineOf kept fs = joined (keptOf kept fs) ++ 13 ∷ 10 ∷ []
+lineOf kept fs = joined (keptOf kept fs) ++ cr ∷ lf ∷ []
 
 unfoldable pub linesOf : List Bool → List (List (List ℕ)) → List ℕ
 linesOf kept [] = []

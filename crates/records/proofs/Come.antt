@@ -19,11 +19,11 @@ use Rattle.records.specs.declared.Size.{Size}
 use Rattle.records.proofs.Within.{comma-within, line-within, end-within}
 
 -- Equal sizes have equal parts.
-size-parts : {a b c u : ℕ} → Size.Whole a b ≡ Size.Whole c u → (c ≡ a) × (b ≡ u)
+pub size-parts : {a b c u : ℕ} → Size.Whole a b ≡ Size.Whole c u → (c ≡ a) × (b ≡ u)
 size-parts e = (cc, cc)
 
 -- More and Bad are the size of no whole record.
-not-whole : {c u : ℕ} (t : Bool) → cond t Size.More Size.Bad ≡ Size.Whole c u → ⊥
+pub not-whole : {c u : ℕ} (t : Bool) → cond t Size.More Size.Bad ≡ Size.Whole c u → ⊥
 not-whole true e = let z : _≡_ {A = ℕ} 0 1 = cc in omega arith
 not-whole false e = let z : _≡_ {A = ℕ} 0 1 = cc in omega arith
 

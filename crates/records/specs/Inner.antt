@@ -4,7 +4,7 @@ use mathlib.Core.Path.{_≡_}
 use mathlib.Core.List.{List, _++_}
 use Prim.Native.Nat.{ℕ, _+_, _≤_, _<_}
 use lib.ListN.{length, getD, drop}
-use Rattle.records.specs.Fields.{plain, quoted, scan, behind, longerBy}
+use Rattle.records.specs.Fields.{quote, plain, quoted, scan, behind, longerBy}
 use Rattle.records.specs.Rows.{Row, line, ends, cut, broken, rowOf}
 use Rattle.records.specs.declared.Field.{Field}
 
@@ -17,7 +17,7 @@ pub record PlainRun (l : List ℕ) (at r : ℕ) : Type 0 where
 pub record QuotedRun (l : List ℕ) (at r : ℕ) : Type 0 where
   pub scans : scan quoted (drop at l) ≡ longerBy r (scan quoted (drop (at + r) l))
   pub within : at + r ≤ length l
-  pub stops : at + r < length l → getD l (at + r) 0 ≡ 34
+  pub stops : at + r < length l → getD l (at + r) 0 ≡ quote
 
 -- From a place between quotes on the closing quote is the last of r bytes; or there is none, and r is 0.
 pub record Closing (l : List ℕ) (at r : ℕ) : Type 0 where
@@ -25,7 +25,7 @@ pub record Closing (l : List ℕ) (at r : ℕ) : Type 0 where
   pub some : 1 ≤ r → scan quoted (drop at l) ≡ longerBy r (behind (drop (at + r) l))
   pub within : at + r ≤ length l
 
--- The fields that stand before the place i of a text, k bytes with their commas, and the row from there on.
+-- The row of which these fields, k bytes with their commas, stand before this one.
 abbrev pub onto : List (List ℕ) → ℕ → Row → Row
 onto fs k (line gs n) = line (fs ++ gs) (k + n)
 onto fs k (ends gs n) = ends (fs ++ gs) (k + n)

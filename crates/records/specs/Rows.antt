@@ -50,13 +50,22 @@ pub data Record : Type 0 where
   more : Record
   bad : Record
 
+-- A record may have k bytes before its line end.
+abbrev pub fewBytes : ℕ → Bool
+fewBytes k = leb k mostBytes
+
+-- A record that does not end in a text of n bytes may still do so in a longer one. With 4,098 bytes, of which the last may be the CR, it is too
+-- long already.
+abbrev pub mayGoOn : ℕ → Bool
+mayGoOn n = ltb n (mostBytes + 2)
+
 -- A row of k bytes with a line end of e bytes behind it.
 abbrev pub closedBy : List (List ℕ) → ℕ → ℕ → Record
-closedBy fs k e = cond (leb k mostBytes) (whole fs (k + e)) bad
+closedBy fs k e = cond (fewBytes k) (whole fs (k + e)) bad
 
--- A text of n bytes ends before the record does. With 4,098 bytes, of which the last may be the CR, it is too long already.
+-- A text of n bytes ends before the record does.
 abbrev pub unfinished : ℕ → Record
-unfinished n = cond (ltb n (mostBytes + 2)) more bad
+unfinished n = cond (mayGoOn n) more bad
 
 -- What the row at the front of a text of n bytes is as a record. Behind the last text there is nothing: "the last record may have none", no
 -- line end.
@@ -76,13 +85,14 @@ sizeOf (whole fs k) = Size.Whole (length fs) k
 sizeOf more = Size.More
 sizeOf bad = Size.Bad
 
--- The same of a record whose last field is this one: of c fields, with k bytes before it, in a text that has n bytes from the record on.
+-- The same by counts alone: of a record of c fields and k bytes with a line end of e bytes, and of one that does not end in a text of n bytes.
 abbrev pub closedSize : ℕ → ℕ → ℕ → Size
-closedSize c k e = cond (leb k mostBytes) (Size.Whole c (k + e)) Size.Bad
+closedSize c k e = cond (fewBytes k) (Size.Whole c (k + e)) Size.Bad
 
 abbrev pub unfinishedSize : ℕ → Size
-unfinishedSize n = cond (ltb n (mostBytes + 2)) Size.More Size.Bad
+unfinishedSize n = cond (mayGoOn n) Size.More Size.Bad
 
+-- The size of a record whose last field is this one: of c fields, with k bytes before it, in a text that has n bytes from the record on.
 abbrev pub endedBy : Bool → ℕ → ℕ → ℕ → Field → Size
 endedBy last n c k (Field.Line m) = closedSize c (k + m) 2
 endedBy last n c k (Field.End m) = cond last (closedSize c (k + m) 0) (unfinishedSize n)

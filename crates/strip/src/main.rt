@@ -5,6 +5,8 @@ use columns::kept_columns;
 use libc::STDERR_FILENO;
 use libc::STDIN_FILENO;
 use libc::STDOUT_FILENO;
+use records::MOST_FIELDS;
+use refusals::MOST_TEXT;
 use stripping::Stripped;
 use stripping::strip;
 ghost use mathlib.Core.Path.{_≡_};
@@ -13,15 +15,10 @@ ghost use lib.ListN.{length};
 ghost use Rattle.strip.specs.Held.{Held};
 
 // One byte more than the longest rulebook, so that a longer one is seen as such without reading on.
-const ENOUGH: usize = 32769;
+const ENOUGH: usize = MOST_TEXT + 1;
 
-// The bytes of an export that are held at once, and the most that is made of them: a last record may lack its line end.
-const ROOM: usize = 32768;
-
-const ROOM_OUT: usize = 32770;
-
-// The most columns of an export.
-const MOST_COLUMNS: usize = 256;
+// The most that is made of the bytes that are held at once: a last record may lack its line end.
+const ROOM_OUT: usize = MOST_TEXT + 2;
 
 // How far a buffer is filled, whether the input has ended, and whether reading failed.
 struct Filled {
@@ -101,14 +98,14 @@ fn run(book: &[u8]) {
 
 // Strips the export by a book and a class that are right.
 fn strip_export(book: &[u8], class: &[u8]) {
-    let mut buf = [0u8; ROOM];
+    let mut buf = [0u8; MOST_TEXT];
     let read = fill(STDIN_FILENO, &mut buf, 0);
     if read.failed {
         os::fail(b"standard input");
         return;
     }
     let have = read.have;
-    let mut kept = [false; MOST_COLUMNS];
+    let mut kept = [false; MOST_FIELDS];
     match kept_columns(book, class, &buf[..have], read.last, &mut kept) {
         Columns::Kept(n) => strip_all(&kept[..n], &mut buf, have, read.last),
         Columns::More => return,
@@ -118,7 +115,7 @@ fn strip_export(book: &[u8], class: &[u8]) {
 
 // Whether the book or the class is refused, and then prints why: before any export is read.
 fn is_refused(book: &[u8], class: &[u8]) -> bool {
-    let mut kept = [false; MOST_COLUMNS];
+    let mut kept = [false; MOST_FIELDS];
     match kept_columns(book, class, b"", false, &mut kept) {
         Columns::Refused(number, place) => {
             refuse(number, place);

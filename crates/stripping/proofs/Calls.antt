@@ -9,9 +9,10 @@ use native.Mathlib.Nat.{zero-add}
 use native.Mathlib.Omega.{arith}
 use lib.Dec.{ltb, eqb}
 use lib.ListN.{length, take, drop}
-use borrow.Author.Tests.{ltb-false, ne-eqb}
+use borrow.Author.Tests.{ltb-false}
 use Rattle.records.specs.Rows.{mostFields}
-use Rattle.refusals.specs.Numbers.{mostText}
+use Rattle.refusals.specs.Numbers.{faultNumber, mostText}
+use Rattle.refusals.specs.declared.Fault.{Fault}
 use Rattle.puts.proofs.Over.{over-length, take-over}
 use Rattle.exports.specs.Rows.{Taken, taken}
 use Rattle.exports.specs.Reading.{Run, allOf}
@@ -23,6 +24,7 @@ use Rattle.exports.proofs.HeldBack.{held-back-leaves-no-trace}
 use Rattle.stripping.specs.Stripping.{answerTo, madeOf, stripAnswer, StripSays}
 use Rattle.stripping.specs.Calls.{Calls, reads, writes, refuses, done}
 use Rattle.stripping.specs.declared.Stripped.{Stripped}
+use Rattle.stripping.proofs.Says.{first-bad}
 
 -- What an answer says of what was taken.
 record TextIs (room n : ℕ) (t : Taken) (u m k : ℕ) : Type 0 where
@@ -44,7 +46,7 @@ answer-is : (number room n : ℕ) (t : Taken) → AnswerIs number room n t (answ
 answer-is number room n t = by (eqb (length (t .rows)) 0 && t .faulty) refl (ltb room n) refl
   where
     by : (a : Bool) → (eqb (length (t .rows)) 0 && t .faulty) ≡ a → (b : Bool) → ltb room n ≡ b
-        → AnswerIs number room n t (cond a (Stripped.Refused csvSyntax number) (cond b (Stripped.Refused 11 0) (Stripped.Text (t .used) n (length (t .rows)))))
+        → AnswerIs number room n t (cond a (Stripped.Refused csvSyntax number) (cond b (Stripped.Refused (faultNumber Fault.NoRoom) 0) (Stripped.Text (t .used) n (length (t .rows)))))
     by true e b f = λ z. record { bad = e; at = refl }
     by false e true f = λ z. absurd (omega arith)
     by false e false f = record { good = e; fits = ltb-false room n f; used = refl; long = refl; count = refl }
@@ -55,7 +57,7 @@ unfolding stripAnswer
 strip-is l last kept number room = by (ltb mostText (length l)) (ltb mostFields (length kept))
   where
     by : (a b : Bool) → AnswerIs number room (length (madeOf l last kept)) (taken last (length kept) l)
-        (cond a (Stripped.Refused 1 0) (cond b (Stripped.Refused 10 0) (answerTo number room (length (madeOf l last kept)) (taken last (length kept) l))))
+        (cond a (Stripped.Refused (faultNumber Fault.TooLong) 0) (cond b (Stripped.Refused (faultNumber Fault.BadTable) 0) (answerTo number room (length (madeOf l last kept)) (taken last (length kept) l))))
     by true b = λ z. absurd (omega arith)
     by false true = λ z. absurd (omega arith)
     by false false = answer-is number room (length (madeOf l last kept)) (taken last (length kept) l)
@@ -91,13 +93,6 @@ text-inside l last kept number out {used} {n} {k} out′ p =
 no-rows : (rows : List (List (List ℕ))) → 0 ≡ length rows → rows ≡ []
 no-rows [] e = refl
 no-rows (r ∷ rows) e = absurd (omega (arith, e))
-
-first-bad : (rows : List (List (List ℕ))) (b : Bool) → (eqb (length rows) 0 && b) ≡ true → (rows ≡ []) × (b ≡ true)
-first-bad [] true e = (refl, refl)
-first-bad [] false e = let z : _≡_ {A = ℕ} 0 1 = cc in absurd (omega arith)
-first-bad (r ∷ rows) b e =
-    let f : false ≡ true = sym (ap (λ (t : Bool). t && b) (ne-eqb (length (r ∷ rows)) 0 (λ h. omega (arith, h)))) ∙ e in
-    let z : _≡_ {A = ℕ} 0 1 = cc in absurd (omega arith)
 
 -- The calls are a run of the definition.
 calls-run : {kept : List Bool} {number : ℕ} {held : List ℕ} {pieces : List (List ℕ)} {text : List ℕ} {v : Verdict} → Calls kept number held pieces text v

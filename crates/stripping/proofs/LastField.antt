@@ -20,7 +20,7 @@ use Rattle.records.specs.Rows.{Record, whole, more, bad, recordAt, sizeOf, ende
 use Rattle.records.specs.declared.Field.{Field}
 use Rattle.records.specs.declared.Size.{Size}
 use Rattle.records.proofs.Size as size
-use Rattle.records.proofs.Come.{Ended, come-ended, come-line, come-end}
+use Rattle.records.proofs.Come.{size-parts, not-whole, Ended, come-ended, come-line, come-end}
 use Rattle.records.proofs.Whole.{whole-here}
 use Rattle.records.proofs.Within.{end-within}
 use Rattle.exports.specs.Rows.{recordOf, fitting}
@@ -52,12 +52,8 @@ record LastIs (last : Bool) (most : ℕ) (l : List ℕ) (fs : List (List ℕ)) (
   line : u < length l → k + n + 2 ≤ u
 
 whole-size : (t : Bool) (a b : ℕ) {c u : ℕ} → cond t (Size.Whole a b) Size.Bad ≡ Size.Whole c u → b ≡ u
-whole-size true a b e = cc
-whole-size false a b e = let z : _≡_ {A = ℕ} 0 1 = cc in absurd (omega arith)
-
-not-more : (t : Bool) {c u : ℕ} → cond t Size.More Size.Bad ≡ Size.Whole c u → ⊥
-not-more true e = let z : _≡_ {A = ℕ} 0 1 = cc in omega arith
-not-more false e = let z : _≡_ {A = ℕ} 0 1 = cc in omega arith
+whole-size true a b e = size-parts e .1
+whole-size false a b e = absurd (not-whole false e)
 
 last-is : {most : ℕ} {l : List ℕ} {fs : List (List ℕ)} {k left : ℕ} → Come most l fs k (suc left) → (last : Bool) (f : Field) {c u : ℕ}
     → fieldAt (drop k l) ≡ f → endedBy last (length l) (length fs + 1) k f ≡ Size.Whole c u → LastIs last most l fs k (fieldLen f) c u
@@ -73,9 +69,9 @@ last-is {l = l} {fs} {k} p true (Field.End n) e g = record {
   line = λ h.
       omega (arith, whole-size (leb (k + n) mostBytes) (length fs + 1) (k + n + 0) g, end-within (drop k l) e, length-drop k l, p .within);
 }
-last-is {l = l} p false (Field.End n) e g = absurd (not-more (ltb (length l) (mostBytes + 2)) g)
+last-is {l = l} p false (Field.End n) e g = absurd (not-whole (ltb (length l) (mostBytes + 2)) g)
 last-is p true Field.Open e g = let z : _≡_ {A = ℕ} 0 1 = cc in absurd (omega arith)
-last-is {l = l} p false Field.Open e g = absurd (not-more (ltb (length l) (mostBytes + 2)) g)
+last-is {l = l} p false Field.Open e g = absurd (not-whole (ltb (length l) (mostBytes + 2)) g)
 last-is p last Field.Bad e g = let z : _≡_ {A = ℕ} 0 1 = cc in absurd (omega arith)
 
 module _ {l : List ℕ} {at columns : ℕ} {ends : List ℕ} {f : Field} {i c : ℕ} (p : LastReady l at columns ends f i c) (last : Bool)

@@ -13,7 +13,8 @@ use borrow.Author.Tests.{lt-ltb, le-ltb, ne-eqb}
 use Rattle.puts.specs.Writing.{Put, over}
 use Rattle.puts.proofs.Over.{over-none, take-over, put-buffer}
 use Rattle.records.specs.Rows.{mostFields}
-use Rattle.refusals.specs.Numbers.{mostText}
+use Rattle.refusals.specs.Numbers.{faultNumber, mostText}
+use Rattle.refusals.specs.declared.Fault.{Fault}
 use Rattle.exports.specs.Rows.{taken}
 use Rattle.exports.specs.Text.{linesOf, csvSyntax}
 use Rattle.exports.proofs.Joining.{lines-none}
@@ -36,29 +37,33 @@ module _ {l : List ℕ} {last : Bool} {kept : List Bool} {d : List ℕ} {r : Fro
       ap (λ (k : ℕ). take k d′) (p .len ∙ sym (zero-add (length (madeOf l last kept))))
       ∙ ap (take (0 + length (madeOf l last kept))) (p .made .buffer) ∙ take-over d 0 (madeOf l last kept) (p .made .room)
 
--- Of a first record that is bad nothing was put.
-no-rows : (kept : List Bool) (rows : List (List (List ℕ))) (faulty : Bool) → (eqb (length rows) 0 && faulty) ≡ true → linesOf kept rows ≡ []
-no-rows kept [] faulty h = lines-none kept
-no-rows kept (fs ∷ rows) faulty h =
-    let z : false ≡ true = ap (λ (b : Bool). b && faulty) (sym (ne-eqb (length (fs ∷ rows)) 0 (λ e. absurd (omega (arith, e))))) ∙ h in
-    let y : _≡_ {A = ℕ} 0 1 = cc in absurd (omega arith)
+-- The first record is bad: none was taken.
+pub first-bad : (rows : List (List (List ℕ))) (faulty : Bool) → (eqb (length rows) 0 && faulty) ≡ true → (rows ≡ []) × (faulty ≡ true)
+first-bad [] true e = (refl, refl)
+first-bad [] false e = let z : _≡_ {A = ℕ} 0 1 = cc in absurd (omega arith)
+first-bad (fs ∷ rows) faulty e =
+    let f : false ≡ true = sym (ap (λ (t : Bool). t && faulty) (ne-eqb (length (fs ∷ rows)) 0 (λ h. omega (arith, h)))) ∙ e in
+    let z : _≡_ {A = ℕ} 0 1 = cc in absurd (omega arith)
 
+-- Then nothing was put.
 pub front-refused : {l : List ℕ} {last : Bool} {kept : List Bool} {d : List ℕ} {r : Front} {d′ : List ℕ} → FrontSays l last kept d r d′
     → r .refused ≡ true → d′ ≡ d
 front-refused {l} {last} {kept} {d} p h =
     p .made .buffer
-    ∙ ap (over d 0) (no-rows kept (taken last (length kept) l .rows) (taken last (length kept) l .faulty) (sym (p .refused) ∙ h))
+    ∙ ap (over d 0)
+    (ap (linesOf kept) (first-bad (taken last (length kept) l .rows) (taken last (length kept) l .faulty) (sym (p .refused) ∙ h) .0) ∙ lines-none kept)
     ∙ over-none d 0
 
 module _ {l : List ℕ} (last : Bool) {kept : List Bool} (number : ℕ) (out : List ℕ) where
-  pub says-long : mostText < length l → StripSays l last kept number out (Stripped.Refused 1 0) out
+  pub says-long : {k : ℕ} → mostText < length l → k ≡ faultNumber Fault.TooLong → StripSays l last kept number out (Stripped.Refused k 0) out
   unfolding stripAnswer
-  says-long h = record { answer = rw (lt-ltb mostText (length l) h); out-after = refl }
+  says-long h f = rw f (record { answer = rw (lt-ltb mostText (length l) h); out-after = refl })
 
   module _ (short : length l ≤ mostText) where
-    pub says-wide : mostFields < length kept → StripSays l last kept number out (Stripped.Refused 10 0) out
+    pub says-wide : {k : ℕ} → mostFields < length kept → k ≡ faultNumber Fault.BadTable
+        → StripSays l last kept number out (Stripped.Refused k 0) out
     unfolding stripAnswer
-    says-wide h = record { answer = rw (le-ltb mostText (length l) short, lt-ltb mostFields (length kept) h); out-after = refl }
+    says-wide h f = rw f (record { answer = rw (le-ltb mostText (length l) short, lt-ltb mostFields (length kept) h); out-after = refl })
 
     module _ (narrow : length kept ≤ mostFields) {d₀ : List ℕ} {r : Front} {d : List ℕ} (p : FrontSays l last kept d₀ r d) where
       answer-is : answerTo number (length out) (length (madeOf l last kept)) (taken last (length kept) l)
@@ -70,7 +75,7 @@ module _ {l : List ℕ} (last : Bool) {kept : List Bool} (number : ℕ) (out : L
       answer-by : (a b : Bool) → (eqb (length (taken last (length kept) l .rows)) 0 && taken last (length kept) l .faulty) ≡ a
           → ltb (length out) (length (madeOf l last kept)) ≡ b
           → cond a (Stripped.Refused csvSyntax number)
-          (cond b (Stripped.Refused 11 0)
+          (cond b (Stripped.Refused (faultNumber Fault.NoRoom) 0)
           (Stripped.Text (taken last (length kept) l .used) (length (madeOf l last kept)) (length (taken last (length kept) l .rows))))
           ≡ stripAnswer l last kept number (length out)
       answer-by a b e f = rw (← e, ← f) answer-is
@@ -82,12 +87,12 @@ module _ {l : List ℕ} (last : Bool) {kept : List Bool} (number : ℕ) (out : L
       }
 
       module _ (good : r .refused ≡ false) where
-        pub says-no-room : length out < r .len → StripSays l last kept number out (Stripped.Refused 11 0) out
-        says-no-room h = record {
+        pub says-no-room : {k : ℕ} → length out < r .len → k ≡ faultNumber Fault.NoRoom → StripSays l last kept number out (Stripped.Refused k 0) out
+        says-no-room h f = rw f (record {
           answer =
               answer-by false true (sym (p .refused) ∙ good) (lt-ltb (length out) (length (madeOf l last kept)) (omega (arith, h, p .len)));
           out-after = refl;
-        }
+        })
 
         pub says-text : {x out′ : List ℕ} {q : ℕ} → r .len ≤ length out → x ≡ take (r .len) d → Put out 0 x out′ q
             → StripSays l last kept number out (Stripped.Text (r .used) (r .len) (r .records)) out′

@@ -8,7 +8,8 @@ use lib.Dec.{ltb, eqb}
 use lib.ListN.{length}
 use Rattle.puts.specs.Writing.{over}
 use Rattle.records.specs.Rows.{mostFields}
-use Rattle.refusals.specs.Numbers.{mostText}
+use Rattle.refusals.specs.Numbers.{faultNumber, mostText}
+use Rattle.refusals.specs.declared.Fault.{Fault}
 use Rattle.exports.specs.Rows.{Taken, taken}
 use Rattle.exports.specs.Text.{linesOf, csvSyntax}
 use Rattle.stripping.specs.declared.Stripped.{Stripped}
@@ -18,7 +19,7 @@ use Rattle.stripping.specs.declared.Stripped.{Stripped}
 abbrev pub answerTo : ℕ → ℕ → ℕ → Taken → Stripped
 answerTo number room n t =
     cond (eqb (length (t .rows)) 0 && t .faulty) (Stripped.Refused csvSyntax number)
-    (cond (ltb room n) (Stripped.Refused 11 0) (Stripped.Text (t .used) n (length (t .rows))))
+    (cond (ltb room n) (Stripped.Refused (faultNumber Fault.NoRoom) 0) (Stripped.Text (t .used) n (length (t .rows))))
 
 -- What is written of the text l.
 abbrev pub madeOf : List ℕ → Bool → List Bool → List ℕ
@@ -27,8 +28,8 @@ madeOf l last kept = linesOf kept (taken last (length kept) l .rows)
 -- "1 | TOO_LONG" for a text "over 32,768 bytes", "10 | BAD_TABLE" for more columns than a record has; then the records.
 unfoldable pub stripAnswer : List ℕ → Bool → List Bool → ℕ → ℕ → Stripped
 stripAnswer l last kept number room =
-    cond (ltb mostText (length l)) (Stripped.Refused 1 0)
-    (cond (ltb mostFields (length kept)) (Stripped.Refused 10 0)
+    cond (ltb mostText (length l)) (Stripped.Refused (faultNumber Fault.TooLong) 0)
+    (cond (ltb mostFields (length kept)) (Stripped.Refused (faultNumber Fault.BadTable) 0)
     (answerTo number room (length (madeOf l last kept)) (taken last (length kept) l)))
 
 -- "A success writes from the front .. and leaves the rest of the buffer"; "Every refusal leaves each lent buffer untouched."

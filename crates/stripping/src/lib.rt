@@ -5,7 +5,9 @@ use puts::put;
 use records::CSV_SYNTAX;
 use records::MOST_FIELDS;
 use records::Size;
+use refusals::Fault;
 use refusals::MOST_TEXT;
+use refusals::fault_number;
 use row::put_row;
 use row::read_row;
 ghost use mathlib.Core.Path.{_≡_};
@@ -15,7 +17,7 @@ ghost use Rattle.stripping.specs.Stripping.{StripSays};
 ghost use Rattle.stripping.specs.Inner.{FrontSays, TakeReady, ShortReady, isBad};
 
 // The most bytes that are made of a text: a last record may lack its line end.
-const MOST_MADE: usize = 32770;
+const MOST_MADE: usize = MOST_TEXT + 2;
 
 // What stripping answers: how many bytes of the text were taken, how many were written, and the number of the records; or the number and the
 // place of a refusal.
@@ -31,10 +33,10 @@ pub fn strip(text: &[u8], last: bool, kept: &[bool], number: u64, out: &mut [u8]
     ensures { λ r. ⌜ StripSays (now (text .entry)) last (now (kept .entry)) number (now (out .entry)) r (now (out .exit)) ⌝ }
 {
     if MOST_TEXT < text.len() {
-        return Stripped::Refused(1, 0);
+        return Stripped::Refused(fault_number(Fault::TooLong), 0);
     }
     if MOST_FIELDS < kept.len() {
-        return Stripped::Refused(10, 0);
+        return Stripped::Refused(fault_number(Fault::BadTable), 0);
     }
     if out.len() < text.len() + 2 {
         return strip_short(text, last, kept, number, out);
@@ -59,7 +61,7 @@ fn strip_short(text: &[u8], last: bool, kept: &[bool], number: u64, out: &mut [u
     }
     let len = front.len;
     if out.len() < len {
-        return Stripped::Refused(11, 0);
+        return Stripped::Refused(fault_number(Fault::NoRoom), 0);
     }
     put(&made[..len], out, 0);
     Stripped::Text(front.used, len, front.records)

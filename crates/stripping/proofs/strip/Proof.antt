@@ -4,8 +4,14 @@ use Rattle.stripping.proofs.Says.{says-long, says-wide, straight-refuse
 use Rattle.stripping.proofs.strip.Statement.{statement}
 use Rattle.stripping.proofs.strip.Tie as tie
 
+fault-number-requires : tie.Need-fault-number-requires
+fault-number-requires c κs = search needs
+
 returns : tie.Need-returns
 returns c = search (says-long, needs)
+
+fault-number-requires-2 : tie.Need-fault-number-requires-2
+fault-number-requires-2 c κs = search needs
 
 returns-2 : tie.Need-returns-2
 returns-2 c = search (says-wide, needs)
@@ -41,7 +47,9 @@ pub strip-spec : {M : Type 1} → statement M
 strip-spec =
     tie.close
     (tie.spec
+    fault-number-requires
     returns
+    fault-number-requires-2
     returns-2
     add-if3
     strip-short-requires

@@ -13,6 +13,9 @@ take-requires c κs = search needs
 returns : tie.Need-returns
 returns c = search (says-refused, needs)
 
+fault-number-requires : tie.Need-fault-number-requires
+fault-number-requires c κs = search needs
+
 returns-2 : tie.Need-returns-2
 returns-2 c = search (says-no-room, needs)
 
@@ -38,6 +41,7 @@ strip-short-spec =
     slice-aggregate-take
     take-requires
     returns
+    fault-number-requires
     returns-2
     array-share-prefix-made
     slice-aggregate-put
