@@ -3,9 +3,10 @@
 use mathlib.Core.List.{List}
 use Prim.Native.Nat.{ℕ}
 use native.Mathlib.Omega.{arith}
-use Rattle.labelling.specs.Rules as meant
+use Rattle.meaning.specs.Rules as meant
+use Rattle.rules.specs.declared.Head.{Head}
 use Rattle.rules.specs.declared.Rule.{Rule}
-use Rattle.rules.specs.Record.{leftOf, meaningOf}
+use Rattle.rules.specs.Record.{leftOf, meaningOf, bookBy}
 use Rattle.rules.specs.Table.{bookOf}
 use Rattle.rules.proofs.Meaning.{by-kind}
 use Rattle.accepts.specs.Accepted.{LeftAccepted, RuleAccepted, RulesAccepted, TableAccepted}
@@ -21,8 +22,8 @@ rule-inside n x p =
     (λ e. left-inside (p .left))
     (λ e. (left-inside (p .left), p .right e))
 
-pub rules-inside : {at : ℕ → Rule} {m n : ℕ} → RulesAccepted at m n → meant.Inside (record { items = n; rules = m; rule = λ r. meaningOf (at r) })
-rules-inside {at} {m} {n} p = record { inside = λ r s. rule-inside n (at r) (p .each r s .accepted) }
+pub rules-inside : {h : Head} {at : ℕ → Rule} → RulesAccepted h at → meant.Inside (bookBy h at)
+rules-inside {h} {at} p = record { inside = λ r s. rule-inside (h .items) (at r) (p .each r s .accepted) }
 
-pub table-inside : {t : List ℕ} {m n : ℕ} → TableAccepted t m n → meant.Inside (bookOf t m n)
+pub table-inside : {h : Head} {t : List ℕ} → TableAccepted h t → meant.Inside (bookOf h t)
 table-inside p = rules-inside (p .accepted)

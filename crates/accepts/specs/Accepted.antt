@@ -4,19 +4,12 @@ use mathlib.Core.Path.{_≡_}
 use mathlib.Core.List.{List}
 use Prim.Native.Nat.{ℕ, suc, _*_, _≤_, _<_}
 use lib.ListN.{length}
+use Rattle.classes.specs.Class.{topLevel}
+use Rattle.refusals.specs.Sizes.{mostItems, mostRules, mostLeft}
+use Rattle.rules.specs.declared.Head.{Head}
 use Rattle.rules.specs.declared.Rule.{Rule}
 use Rattle.rules.specs.Record.{leftItem}
-use Rattle.rules.specs.Table.{ruleWords, recordAt}
-
--- 0 to 256 items; 0 to 1,024 rules, caps, floors and follows together; 1 to 8 left names.
-abbrev pub mostItems : ℕ
-mostItems = 256
-
-abbrev pub mostRules : ℕ
-mostRules = 1024
-
-abbrev pub mostLeft : ℕ
-mostLeft = 8
+use Rattle.rules.specs.Table.{ruleWords, ruleAt}
 
 -- Place k of the left side, in a book of n items: a name there is an item, and less than the next one if there is one; a place beyond the last
 -- name holds zero.
@@ -36,25 +29,25 @@ pub record LeftAccepted (n : ℕ) (x : Rule) : Type 0 where
 pub record RuleAccepted (n : ℕ) (x : Rule) : Type 0 where
   pub kind : x .kind ≤ 2
   pub left : LeftAccepted n x
-  pub level : x .class .level ≤ 15
+  pub level : x .class .level ≤ topLevel
   pub single : x .kind ≡ 0 → x .count ≡ 1
   pub right : x .kind ≡ 2 → x .right < n
   pub levelless : x .kind ≡ 2 → x .class .level ≡ 0
   pub markless : x .kind ≡ 2 → x .class .marks ≡ 0
   pub rightless : x .kind < 2 → x .right ≡ 0
 
--- Rule r of m is accepted, and its kind is not above the next one's: all caps, then floors, then follows.
-pub record Standing (at : ℕ → Rule) (m n r : ℕ) : Type 0 where
-  pub accepted : RuleAccepted n (at r)
-  pub order : suc r < m → at r .kind ≤ at (suc r) .kind
+-- Rule r is accepted, and its kind is not above the next one's: all caps, then floors, then follows.
+pub record Standing (h : Head) (at : ℕ → Rule) (r : ℕ) : Type 0 where
+  pub accepted : RuleAccepted (h .items) (at r)
+  pub order : suc r < h .rules → at r .kind ≤ at (suc r) .kind
 
--- Rules 0 to m - 1 of a book of n items hold to every size, range and order.
-pub record RulesAccepted (at : ℕ → Rule) (m n : ℕ) : Type 0 where
-  pub items : n ≤ mostItems
-  pub rules : m ≤ mostRules
-  pub each : (r : ℕ) → r < m → Standing at m n r
+-- Rules by number, under the head of their book, hold to every size, range and order.
+pub record RulesAccepted (h : Head) (at : ℕ → Rule) : Type 0 where
+  pub items : h .items ≤ mostItems
+  pub rules : h .rules ≤ mostRules
+  pub each : (r : ℕ) → r < h .rules → Standing h at r
 
 -- The same of a flat table, which is not shorter than its count.
-pub record TableAccepted (t : List ℕ) (m n : ℕ) : Type 0 where
-  pub room : m * ruleWords ≤ length t
-  pub accepted : RulesAccepted (recordAt t) m n
+pub record TableAccepted (h : Head) (t : List ℕ) : Type 0 where
+  pub room : h .rules * ruleWords ≤ length t
+  pub accepted : RulesAccepted h (ruleAt t)

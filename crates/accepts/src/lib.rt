@@ -1,22 +1,26 @@
 // Which rules, and which tables of rules, are accepted: the tests of a rule by value and of a flat lent table.
 //
 // Nothing here refuses. A test answers no.
+use classes::TOP_LEVEL;
+use refusals::MOST_ITEMS;
+use refusals::MOST_LEFT;
+use refusals::MOST_RULES;
 use rules::CAP;
 use rules::FLOOR;
 use rules::FOLLOW;
-use rules::MOST_ITEMS;
-use rules::MOST_RULES;
+use rules::Head;
 use rules::Rule;
 use rules::WORDS;
 use rules::rule_at;
 ghost use Prim.Native.Nat.{_≤_, _<_};
-ghost use Rattle.classes.specs.Tells.{Tells};
-ghost use Rattle.rules.specs.Table.{recordAt};
+ghost use Rattle.laws.specs.Tells.{Tells};
+ghost use Rattle.refusals.specs.Sizes.{mostLeft};
+ghost use Rattle.rules.specs.Table.{ruleAt};
 ghost use Rattle.accepts.specs.Accepted.{PlaceAccepted, LeftAccepted, RuleAccepted, Standing, TableAccepted};
 
 // Whether place k of the left side of a rule is right in a book of n items.
 fn place_ok(rule: Rule, n: u64, k: usize) -> bool
-    requires { ⌜ (k < 8) × (rule .count ≤ 8) ⌝ }
+    requires { ⌜ (k < mostLeft) × (rule .count ≤ mostLeft) ⌝ }
     ensures { λ r. ⌜ Tells (PlaceAccepted n rule k) r ⌝ }
 {
     let item = rule.left[k];
@@ -40,11 +44,11 @@ fn left_ok(rule: Rule, n: u64) -> bool
     if rule.count < 1 {
         return false;
     }
-    if 8 < rule.count {
+    if (MOST_LEFT as u64) < rule.count {
         return false;
     }
     let mut k: usize = 0;
-    while k < 8 {
+    while k < MOST_LEFT {
         if !place_ok(rule, n, k) {
             return false;
         }
@@ -60,7 +64,7 @@ pub fn rule_ok(rule: Rule, n: u64) -> bool
     if !left_ok(rule, n) {
         return false;
     }
-    if 15 < rule.class.level {
+    if TOP_LEVEL < rule.class.level {
         return false;
     }
     if rule.kind == CAP {
@@ -84,38 +88,38 @@ pub fn rule_ok(rule: Rule, n: u64) -> bool
     rule.class.marks == 0
 }
 
-// Whether rule r of the table's m rules is accepted in a book of n items, and not out of order.
-fn standing(rules: &[u64], m: usize, n: usize, r: usize) -> bool
-    requires { ⌜ r < m ⌝ }
-    ensures { λ x. ⌜ Tells (Standing (recordAt (now (rules .entry))) m n r) x ⌝ }
+// Whether rule r of a table is accepted under this head, and not out of order.
+fn standing(rules: &[u64], head: Head, r: usize) -> bool
+    requires { ⌜ r < head .rules ⌝ }
+    ensures { λ x. ⌜ Tells (Standing head (ruleAt (now (rules .entry))) r) x ⌝ }
 {
     let rule = rule_at(rules, r);
-    if !rule_ok(rule, n as u64) {
+    if !rule_ok(rule, head.items as u64) {
         return false;
     }
     let next = r + 1;
-    if m <= next {
+    if head.rules <= next {
         return true;
     }
     rule.kind <= rule_at(rules, next).kind
 }
 
-// Whether a table is accepted with its count of rules, m, and its count of items, n.
-pub fn rules_ok(rules: &[u64], m: usize, n: usize) -> bool
-    ensures { λ x. ⌜ Tells (TableAccepted (now (rules .entry)) m n) x ⌝ }
+// Whether a table is accepted under this head.
+pub fn rules_ok(rules: &[u64], head: Head) -> bool
+    ensures { λ x. ⌜ Tells (TableAccepted head (now (rules .entry))) x ⌝ }
 {
-    if MOST_ITEMS < n {
+    if MOST_ITEMS < head.items {
         return false;
     }
-    if MOST_RULES < m {
+    if MOST_RULES < head.rules {
         return false;
     }
-    if rules.len() < m * WORDS {
+    if rules.len() < head.rules * WORDS {
         return false;
     }
     let mut r: usize = 0;
-    while r < m {
-        if !standing(rules, m, n, r) {
+    while r < head.rules {
+        if !standing(rules, head, r) {
             return false;
         }
         r += 1;

@@ -6,14 +6,15 @@ use Prim.Native.Nat.{ℕ, _+_, _≤_}
 use native.Mathlib.Nat.{zero-add}
 use native.Mathlib.Omega.{arith}
 use lib.ListN.{length, length-append}
-use Rattle.refusals.specs.Numbers.{mostText}
+use Rattle.refusals.specs.Sizes.{mostText}
 use Rattle.keys.specs.Keys.{keyText}
 use Rattle.keys.specs.declared.Key.{Key}
 use Rattle.tokens.specs.Numbers.{decimalLen}
 use Rattle.tokens.specs.Tokens.{countText}
 use Rattle.tokens.proofs.Values.{digits-length, decimal-most}
 use Rattle.puts.specs.Writing.{Put}
-use Rattle.puts.proofs.Over.{over-length, take-over, put-buffer, put-next, put-put}
+use Rattle.puts.proofs.Placed.{put-buffer, put-next, put-put}
+use Rattle.laws.proofs.Over.{over-length, take-over}
 use Rattle.writer.specs.Texts.{formLine}
 use Rattle.answers.specs.Answering.{countLine, refusedKey, atKey, refusalText}
 use Rattle.answers.specs.Inner.{Whole, LineRoom, FrontIs}

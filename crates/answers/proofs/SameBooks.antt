@@ -6,19 +6,20 @@ use mathlib.Core.List.{List, [], _∷_, _++_}
 use Prim.Native.Nat.{ℕ, _+_, _<_}
 use native.Mathlib.Omega.{arith}
 use Rattle.classes.specs.declared.Class.{Class}
-use Rattle.labelling.specs.Values.{Values}
-use Rattle.labelling.specs.Rules as meant
-use Rattle.labelling.specs.Rules.{Book, Met, mapRule}
-use Rattle.labelling.specs.Labelling.{Labelling, Wanted}
-use Rattle.labelling.specs.Parts.{Parts, Refused, inPart, partValues}
-use Rattle.labelling.specs.Classes.{classes, classParts}
+use Rattle.meaning.specs.Values.{Values}
+use Rattle.meaning.specs.Rules as meant
+use Rattle.meaning.specs.Rules.{Book, Met, mapRule}
+use Rattle.meaning.specs.Labelling.{Labelling, Wanted}
+use Rattle.meaning.specs.Parts.{Parts, Refused, inPart, partValues}
+use Rattle.meaning.specs.Classes.{classes, classParts}
 use Rattle.items.specs.Table.{nameOf}
-use Rattle.rules.specs.Record.{labelsIn, meaningOf}
+use Rattle.rules.specs.Record.{meaningOf}
+use Rattle.labels.specs.Labels.{labelsIn}
 use Rattle.rules.specs.Table.{bookOf}
 use Rattle.tokens.specs.Tokens.{classText}
 use Rattle.writer.specs.Texts.{formLine, endLine, labelKey, labelLine, labelsText}
-use Rattle.writer.specs.Writing.{Tables}
-use Rattle.rulebook.specs.RoundTrip.{SameTables}
+use Rattle.accepts.specs.Tables.{Tables}
+use Rattle.accepts.specs.Tables.{SameTables}
 use Rattle.rulebook.proofs.Pieces.{pieces-same}
 use Rattle.rulebook.proofs.Counted.{rule-same, name-same}
 use Rattle.answers.specs.Answering.{BookSays, unlabelled, labelled}

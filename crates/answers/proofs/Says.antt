@@ -7,14 +7,16 @@ use native.Mathlib.Nat.{sub-zero}
 use native.Mathlib.Omega.{arith}
 use lib.ListN.{length, take, drop}
 use lib.Seq.{length-take-le}
-use Rattle.labelling.specs.Classes.{classParts}
-use Rattle.labelling.specs.Parts.{Refused}
+use Rattle.meaning.specs.Classes.{classParts}
+use Rattle.meaning.specs.Parts.{Refused}
 use Rattle.labels.specs.Labels.{Room}
-use Rattle.labels.proofs.First.{first-not-all}
+use Rattle.laws.proofs.First.{first-not-all}
 use Rattle.rules.specs.Table.{bookOf}
 use Rattle.accepts.specs.Accepted.{TableAccepted}
-use Rattle.puts.specs.Writing.{over, Put}
-use Rattle.puts.proofs.Over.{over-length, put-buffer}
+use Rattle.puts.specs.Writing.{Put}
+use Rattle.laws.specs.Over.{over}
+use Rattle.puts.proofs.Placed.{put-buffer}
+use Rattle.laws.proofs.Over.{over-length}
 use Rattle.refusals.specs.Numbers.{faultNumber}
 use Rattle.refusals.specs.declared.Fault.{Fault}
 use Rattle.reader.specs.Reading.{ReadSays}
@@ -26,7 +28,7 @@ use Rattle.writer.specs.Writing as writing
 use Rattle.writer.specs.Writing.{LabelsSays, bad-items, few-labels, bad-label, short-buffer, CopySays, roomless, copied}
 use Rattle.writer.specs.declared.Written.{Written}
 use Rattle.writer.proofs.Lengths.{labels-short}
-use Rattle.rulebook.proofs.Buffers.{front-over}
+use Rattle.laws.proofs.Buffers.{front-over}
 use Rattle.rulebook.proofs.RoundTrip.{read-passes}
 use Rattle.answers.specs.Answering as answering
 use Rattle.answers.specs.Answering.{refusalText, BookSays, AnswerSays, RoutineSays}

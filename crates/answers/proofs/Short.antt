@@ -9,9 +9,9 @@ use lib.ListN.{length, length-append}
 use Rattle.items.specs.Table.{ItemsOk}
 use Rattle.keys.specs.Keys.{keyText}
 use Rattle.keys.specs.declared.Key.{Key}
-use Rattle.puts.proofs.Over.{over-length}
+use Rattle.laws.proofs.Over.{over-length}
 use Rattle.refusals.specs.declared.Fault.{Fault}
-use Rattle.refusals.specs.Numbers.{mostText}
+use Rattle.refusals.specs.Sizes.{mostText}
 use Rattle.writer.specs.Texts.{formLine}
 use Rattle.writer.specs.Writing.{CopySays, roomless, copied}
 use Rattle.writer.specs.declared.Written.{Written}

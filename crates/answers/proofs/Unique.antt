@@ -4,7 +4,7 @@ use mathlib.Core.Path.{_≡_, refl, sym, ap, ap₂, _∙_, subst}
 use mathlib.Core.List.{List}
 use Prim.Native.Nat.{ℕ}
 use native.Mathlib.Omega.{arith}
-use Rattle.labelling.proofs.Demands.{wanted-unique, refused-unique, refused-unlabelled}
+use Rattle.meaning.proofs.Demands.{wanted-unique, refused-unique, refused-unlabelled}
 use Rattle.rules.specs.Table.{bookOf}
 use Rattle.accepts.specs.Accepted.{TableAccepted}
 use Rattle.accepts.proofs.Inside.{table-inside}

@@ -11,15 +11,15 @@ use lib.Seq.{length-take-le}
 use borrow.Author.Tests.{le-leb}
 use Rattle.items.specs.Names.{nameRoom}
 use Rattle.rules.specs.Table.{ruleWords}
-use Rattle.puts.specs.Writing.{over}
+use Rattle.laws.specs.Over.{over}
 use Rattle.refusals.specs.declared.Fault.{Fault}
-use Rattle.refusals.specs.Numbers.{mostText}
+use Rattle.refusals.specs.Sizes.{mostText}
 use Rattle.reader.specs.Reading.{readText, fitted, readAnswer, readNumber, ReadSays}
 use Rattle.reader.specs.declared.ReadBook.{ReadBook}
 use Rattle.reader.proofs.Whole.{FewRead, read-few}
-use Rattle.writer.specs.Writing.{Tables}
-use Rattle.rulebook.specs.RoundTrip.{SameTables}
-use Rattle.rulebook.proofs.Buffers.{front-over}
+use Rattle.accepts.specs.Tables.{Tables}
+use Rattle.accepts.specs.Tables.{SameTables}
+use Rattle.laws.proofs.Buffers.{front-over}
 use Rattle.rulebook.proofs.ReadRight.{read-right}
 use Rattle.answers.specs.Answering.{readWhole}
 

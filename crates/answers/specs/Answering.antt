@@ -6,15 +6,16 @@ use mathlib.Core.List.{List, [], _∷_, _++_}
 use Prim.Native.Nat.{ℕ}
 use lib.Dec.{ltb}
 use lib.ListN.{length}
-use Rattle.labelling.specs.Classes.{classes, classParts}
-use Rattle.labelling.specs.Labelling.{Wanted}
-use Rattle.labelling.specs.Parts.{Refused}
-use Rattle.rules.specs.Record.{labelsIn}
+use Rattle.meaning.specs.Classes.{classes, classParts}
+use Rattle.meaning.specs.Labelling.{Wanted}
+use Rattle.meaning.specs.Parts.{Refused}
+use Rattle.labels.specs.Labels.{labelsIn}
 use Rattle.rules.specs.Table.{bookOf}
 use Rattle.keys.specs.Keys.{keyText}
 use Rattle.keys.specs.declared.Key.{Key}
 use Rattle.tokens.specs.Tokens.{countText}
-use Rattle.refusals.specs.Numbers.{faultNumber, mostText}
+use Rattle.refusals.specs.Numbers.{faultNumber}
+use Rattle.refusals.specs.Sizes.{mostText}
 use Rattle.refusals.specs.declared.Fault.{Fault}
 use Rattle.reader.specs.Reading.{readText}
 use Rattle.reader.specs.declared.ReadBook.{ReadBook}

@@ -4,8 +4,9 @@ use mathlib.Core.Path.{_≡_}
 use mathlib.Core.List.{List}
 use Prim.Native.Nat.{ℕ, _+_, _≤_}
 use lib.ListN.{length, take}
-use Rattle.refusals.specs.Numbers.{mostText}
-use Rattle.writer.specs.Writing.{Tables, Labels}
+use Rattle.refusals.specs.Sizes.{mostText}
+use Rattle.writer.specs.Writing.{Labels}
+use Rattle.accepts.specs.Tables.{Tables}
 
 -- The buffer has room for every text.
 pub record Whole (d : List ℕ) : Type 0 where

@@ -5,9 +5,9 @@ use mathlib.Core.List.{List}
 use Prim.Native.Nat.{ℕ, zero, suc, _+_, _*_, _≤_, _<_}
 use native.Mathlib.Omega.{arith}
 use lib.ListN.{length}
-use Rattle.labels.specs.First.{FirstFailing}
+use Rattle.laws.specs.First.{FirstFailing}
 use Rattle.rules.specs.declared.Rule.{Rule}
-use Rattle.rules.specs.Table.{ruleWords, recordAt}
+use Rattle.rules.specs.Table.{ruleWords, ruleAt}
 use Rattle.accepts.specs.Accepted.{RuleAccepted, Standing, RulesAccepted, TableAccepted}
 use Rattle.checker.specs.declared.Checked.{Checked}
 use Rattle.checker.specs.Answer.{Said, said}
@@ -52,7 +52,7 @@ module _ {t : List ℕ} {rules : List Rule} {m n : ℕ} (same : SameRules t rule
   listed x = record { room = same .listed (x .room); accepted = accepted-alike (same .each) (x .accepted) }
 
   -- "with equal answers": on equal rules `check` and `check_list` answer the same.
-  pub check-alike : {levels marks : List ℕ} {a b : Checked} → CheckSays (TableAccepted t m n) (recordAt t) m n levels marks (said a) → CheckSays (ListAccepted rules m n) (listAt rules) m n levels marks (said b) → a ≡ b
+  pub check-alike : {levels marks : List ℕ} {a b : Checked} → CheckSays (TableAccepted t m n) (ruleAt t) m n levels marks (said a) → CheckSays (ListAccepted rules m n) (listAt rules) m n levels marks (said b) → a ≡ b
   check-alike x y = check-unique (says-alike (same .each) listed tabled x) y
 
 -- A flat table decoded rule by rule has its rules.
@@ -60,14 +60,14 @@ decoded-length : (t : List ℕ) (r k : ℕ) → length (decodedFrom t r k) ≡ k
 decoded-length t r zero = refl
 decoded-length t r (suc k) = ap suc (decoded-length t (suc r) k)
 
-decoded-at : (t : List ℕ) (r k j : ℕ) → j < k → listAt (decodedFrom t r k) j ≡ recordAt t (r + j)
+decoded-at : (t : List ℕ) (r k j : ℕ) → j < k → listAt (decodedFrom t r k) j ≡ ruleAt t (r + j)
 decoded-at t r zero j s = absurd (omega arith)
-decoded-at t r (suc k) zero s = ap (recordAt t) (omega arith)
-decoded-at t r (suc k) (suc j) s = decoded-at t (suc r) k j (omega arith) ∙ ap (recordAt t) (omega arith)
+decoded-at t r (suc k) zero s = ap (ruleAt t) (omega arith)
+decoded-at t r (suc k) (suc j) s = decoded-at t (suc r) k j (omega arith) ∙ ap (ruleAt t) (omega arith)
 
 pub decoded-same : (t : List ℕ) (m : ℕ) → m * ruleWords ≤ length t → SameRules t (decodedFrom t 0 m) m
 decoded-same t m room = record {
   listed = λ s. let e = decoded-length t 0 m in omega arith;
   tabled = λ s. room;
-  each = λ r s. sym (decoded-at t 0 m r s ∙ ap (recordAt t) (omega arith));
+  each = λ r s. sym (decoded-at t 0 m r s ∙ ap (ruleAt t) (omega arith));
 }

@@ -5,13 +5,14 @@ use mathlib.Core.List.{List}
 use Prim.Native.Nat.{ℕ, _^_, _<_}
 use lib.ListN.{getD}
 use Rattle.classes.specs.declared.Class.{Class}
-use Rattle.labelling.specs.Rules.{Book}
-use Rattle.labelling.specs.Labelling.{Labelling}
-use Rattle.labelling.specs.Classes.{classes}
+use Rattle.meaning.specs.Rules.{Book}
+use Rattle.meaning.specs.Labelling.{Labelling}
+use Rattle.meaning.specs.Classes.{classes}
 use Rattle.labels.specs.Labels.{Room}
 use Rattle.rules.specs.declared.Rule.{Rule}
-use Rattle.rules.specs.Record.{meaningOf, labelsIn}
-use Rattle.rules.specs.Table.{recordAt, bookOf}
+use Rattle.rules.specs.Record.{meaningOf}
+use Rattle.labels.specs.Labels.{labelsIn}
+use Rattle.rules.specs.Table.{ruleAt, bookOf}
 use Rattle.accepts.specs.Accepted.{TableAccepted}
 use Rattle.checker.specs.declared.Checked.{Checked}
 use Rattle.checker.specs.declared.Checked.the-variants.{Met}
@@ -50,8 +51,8 @@ module _ {Accepted : Type 0} {at : ℕ → Rule} {m n : ℕ} {levels marks : Lis
 
 -- The same of a flat table.
 module _ {t : List ℕ} {m n : ℕ} {levels marks : List ℕ} where
-  pub table-met-labelling : ((i : ℕ) → i < n → getD marks i 0 < 2 ^ 64) → CheckSays (TableAccepted t m n) (recordAt t) m n levels marks (said Met) → Labelling classes (bookOf t m n) (labelsIn levels marks)
+  pub table-met-labelling : ((i : ℕ) → i < n → getD marks i 0 < 2 ^ 64) → CheckSays (TableAccepted t m n) (ruleAt t) m n levels marks (said Met) → Labelling classes (bookOf t m n) (labelsIn levels marks)
   table-met-labelling = met-labelling
 
-  pub table-labelling-met : TableAccepted t m n → Room n levels marks → Labelling classes (bookOf t m n) (labelsIn levels marks) → {a : Checked} → CheckSays (TableAccepted t m n) (recordAt t) m n levels marks (said a) → a ≡ Met
+  pub table-labelling-met : TableAccepted t m n → Room n levels marks → Labelling classes (bookOf t m n) (labelsIn levels marks) → {a : Checked} → CheckSays (TableAccepted t m n) (ruleAt t) m n levels marks (said a) → a ≡ Met
   table-labelling-met = labelling-met

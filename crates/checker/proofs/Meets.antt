@@ -5,13 +5,14 @@ use mathlib.Core.Bool.{Bool, true, false, not}
 use mathlib.Core.List.{List}
 use Prim.Native.Nat.{ℕ}
 use Rattle.classes.specs.Class.{Covers}
-use Rattle.classes.specs.Tells.{Tells}
+use Rattle.laws.specs.Tells.{Tells}
 use Rattle.classes.specs.declared.Class.{Class}
-use Rattle.classes.proofs.Tells.{tells-unique, told-no, told-yes}
-use Rattle.labelling.specs.Rules.{Met, joinOver}
-use Rattle.labelling.specs.Classes.{classes}
+use Rattle.laws.proofs.Tells.{tells-unique, told-no, told-yes}
+use Rattle.meaning.specs.Rules.{Met, joinOver}
+use Rattle.meaning.specs.Classes.{classes}
 use Rattle.rules.specs.declared.Rule.{Rule}
-use Rattle.rules.specs.Record.{leftOf, leftItem, meaningOf, labelsIn}
+use Rattle.rules.specs.Record.{leftOf, leftItem, meaningOf}
+use Rattle.labels.specs.Labels.{labelsIn}
 use Rattle.rules.proofs.Meaning.{meaning-cap, meaning-floor, meaning-follow}
 use Rattle.checker.specs.Checking.{RuleMet}
 

@@ -2,7 +2,7 @@
 -- Assumes nothing.
 use mathlib.Core.List.{List}
 use Prim.Native.Nat.{ℕ, _≤_, _<_}
-use Rattle.labels.specs.First.{Sought}
+use Rattle.laws.specs.First.{Sought}
 use Rattle.labels.specs.Labels.{LevelInRange, Room}
 use Rattle.rules.specs.declared.Rule.{Rule}
 use Rattle.checker.specs.declared.Checked.the-variants.{Met, Unmet, BadTable, NoRoom, BadLabel}

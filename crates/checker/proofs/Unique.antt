@@ -6,7 +6,7 @@ use mathlib.Core.Bool.{cond}
 use mathlib.Core.List.{List}
 use Prim.Native.Nat.{ℕ}
 use lib.Dec.{eqb}
-use Rattle.labels.proofs.First.{first-not-all, first-unique}
+use Rattle.laws.proofs.First.{first-not-all, first-unique}
 use Rattle.rules.specs.declared.Rule.{Rule}
 use Rattle.checker.specs.declared.Checked.{Checked}
 use Rattle.checker.specs.declared.Checked.the-variants.{Met, Unmet, BadTable, NoRoom, BadLabel}

@@ -11,14 +11,15 @@ use native.Mathlib.Omega.{arith}
 use borrow.Author.Tests.{not-true, not-false}
 use lib.Dec.{leb}
 use lib.ListN.{length}
-use Rattle.classes.specs.Tells.{Tells}
-use Rattle.classes.proofs.Bools.{true-not-false}
-use Rattle.classes.proofs.Tells.{tells-unique, tells-no, tells-yes, tells-leb}
-use Rattle.labelling.specs.Rules.{Met}
-use Rattle.labelling.specs.Classes.{classes}
-use Rattle.labels.proofs.First.{all-none, all-more, sought-here}
+use Rattle.laws.specs.Tells.{Tells}
+use Rattle.laws.proofs.Bools.{true-not-false}
+use Rattle.laws.proofs.Tells.{tells-unique, tells-no, tells-yes, tells-leb}
+use Rattle.meaning.specs.Rules.{Met}
+use Rattle.meaning.specs.Classes.{classes}
+use Rattle.laws.proofs.First.{all-none, all-more, sought-here}
 use Rattle.rules.specs.declared.Rule.{Rule}
-use Rattle.rules.specs.Record.{meaningOf, labelsIn}
+use Rattle.rules.specs.Record.{meaningOf}
+use Rattle.labels.specs.Labels.{labelsIn}
 use Rattle.accepts.specs.Accepted.{RuleAccepted, Standing}
 use Rattle.checker.specs.declared.list.Seen.{Seen}
 use Rattle.checker.specs.declared.Checked.the-variants.{BadTable}

@@ -3,12 +3,13 @@
 -- Assumes nothing.
 use mathlib.Core.List.{List}
 use Prim.Native.Nat.{ℕ}
-use Rattle.labelling.specs.Rules as meant
-use Rattle.labelling.specs.Classes.{classes}
-use Rattle.labels.specs.First.{AllBelow, FirstFailing}
+use Rattle.meaning.specs.Rules as meant
+use Rattle.meaning.specs.Classes.{classes}
+use Rattle.laws.specs.First.{AllBelow, FirstFailing}
 use Rattle.labels.specs.Labels.{LevelInRange, Room}
 use Rattle.rules.specs.declared.Rule.{Rule}
-use Rattle.rules.specs.Record.{meaningOf, labelsIn}
+use Rattle.rules.specs.Record.{meaningOf}
+use Rattle.labels.specs.Labels.{labelsIn}
 use Rattle.checker.specs.Answer.{Said, met, unmet, refused}
 
 -- Rule r is met.

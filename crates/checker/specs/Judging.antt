@@ -2,7 +2,7 @@
 -- Assumes nothing.
 use mathlib.Core.List.{List}
 use Prim.Native.Nat.{ℕ}
-use Rattle.labels.specs.First.{Sought}
+use Rattle.laws.specs.First.{Sought}
 use Rattle.rules.specs.declared.Rule.{Rule}
 use Rattle.checker.specs.Answer.{Said}
 use Rattle.checker.specs.Checking.{RuleMet, CheckSays}

@@ -5,10 +5,11 @@ use mathlib.Core.Bool.{true}
 use mathlib.Core.List.{List}
 use Prim.Native.Nat.{ℕ, zero, suc, _≤_, _<_}
 use lib.ListN.{length}
-use Rattle.classes.specs.Tells.{Tells}
-use Rattle.labels.specs.First.{Sought}
+use Rattle.laws.specs.Tells.{Tells}
+use Rattle.laws.specs.First.{Sought}
 use Rattle.rules.specs.declared.Rule.{Rule}
-use Rattle.accepts.specs.Accepted.{mostItems, mostRules, RuleAccepted, Standing}
+use Rattle.accepts.specs.Accepted.{RuleAccepted, Standing}
+use Rattle.refusals.specs.Sizes.{mostItems, mostRules}
 use Rattle.checker.specs.declared.list.Seen.{Seen}
 use Rattle.checker.specs.Answer.{Said}
 use Rattle.checker.specs.Checking.{RuleMet, CheckSays}

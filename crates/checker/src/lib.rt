@@ -8,12 +8,13 @@ use labels::has_room;
 use rules::CAP;
 use rules::FLOOR;
 use rules::Rule;
-ghost use Rattle.classes.specs.Tells.{Tells};
-ghost use Rattle.labelling.specs.Rules.{Met};
-ghost use Rattle.labelling.specs.Classes.{classes};
-ghost use Rattle.labels.specs.First.{Sought};
-ghost use Rattle.rules.specs.Record.{meaningOf, labelsIn};
-ghost use Rattle.rules.specs.Table.{recordAt};
+ghost use Rattle.laws.specs.Tells.{Tells};
+ghost use Rattle.meaning.specs.Rules.{Met};
+ghost use Rattle.meaning.specs.Classes.{classes};
+ghost use Rattle.laws.specs.First.{Sought};
+ghost use Rattle.rules.specs.Record.{meaningOf};
+ghost use Rattle.labels.specs.Labels.{labelsIn};
+ghost use Rattle.rules.specs.Table.{ruleAt};
 ghost use Rattle.accepts.specs.Accepted.{TableAccepted};
 ghost use Rattle.checker.specs.Answer.{said};
 ghost use Rattle.checker.specs.Checking.{RuleMet, CheckSays};
@@ -33,7 +34,7 @@ pub enum Checked {
 pub fn met(rule: Rule, levels: &[u64], marks: &[u64]) -> bool
     ensures { λ r. ⌜ Tells (Met classes (meaningOf rule) (labelsIn (now (levels .entry)) (now (marks .entry)))) r ⌝ }
 {
-    let first = rules::label_at(levels, marks, rule.left[0]);
+    let first = labels::label_at(levels, marks, rule.left[0]);
     if rule.kind == CAP {
         return rule.class.covers(first);
     }
@@ -41,13 +42,13 @@ pub fn met(rule: Rule, levels: &[u64], marks: &[u64]) -> bool
     if rule.kind == FLOOR {
         return join.covers(rule.class);
     }
-    join.covers(rules::label_at(levels, marks, rule.right))
+    join.covers(labels::label_at(levels, marks, rule.right))
 }
 
 // BadTable where the table is not accepted with m rules and n items; NoRoom where there are fewer than n labels; BadLabel with the first of
 // the n items whose level is over 15; else Unmet with the first of the m rules that the labels do not meet, or Met.
 pub fn check(rules: &[u64], m: usize, n: usize, levels: &[u64], marks: &[u64]) -> Checked
-    ensures { λ r. ⌜ CheckSays (TableAccepted (now (rules .entry)) m n) (recordAt (now (rules .entry))) m n (now (levels .entry)) (now (marks .entry)) (said r) ⌝ }
+    ensures { λ r. ⌜ CheckSays (TableAccepted (now (rules .entry)) m n) (ruleAt (now (rules .entry))) m n (now (levels .entry)) (now (marks .entry)) (said r) ⌝ }
 {
     if !accepts::rules_ok(rules, m, n) {
         return Checked::BadTable;
@@ -74,7 +75,7 @@ pub(crate) fn judged(unmet: usize, m: usize, n: usize, levels: &[u64], marks: &[
 
 // The first of the table's m rules that the labels do not meet, and m where they meet each.
 fn first_unmet(rules: &[u64], m: usize, levels: &[u64], marks: &[u64]) -> usize
-    ensures { λ r. ⌜ Sought (RuleMet (recordAt (now (rules .entry))) (now (levels .entry)) (now (marks .entry))) m r ⌝ }
+    ensures { λ r. ⌜ Sought (RuleMet (ruleAt (now (rules .entry))) (now (levels .entry)) (now (marks .entry))) m r ⌝ }
 {
     let mut r: usize = 0;
     while r < m {

@@ -7,7 +7,7 @@ use super::met;
 use rules::MOST_ITEMS;
 use rules::MOST_RULES;
 use rules::Rule;
-ghost use Rattle.classes.specs.Tells.{Tells};
+ghost use Rattle.laws.specs.Tells.{Tells};
 ghost use Rattle.checker.specs.Answer.{said};
 ghost use Rattle.checker.specs.Checking.{CheckSays};
 ghost use Rattle.checker.specs.List.{listAt, ListAccepted};

@@ -9,9 +9,13 @@ use Rattle.classes.specs.declared.Class.{Class}
 abbrev pub classOf : ℕ → ℕ → Class
 classOf l m = record { level = l; marks = m }
 
+-- "a level 0 to 15".
+abbrev pub topLevel : ℕ
+topLevel = 15
+
 -- A class is a level 0 to 15 and a set of marks 0 to 63.
 pub record IsClass (c : Class) : Type 0 where
-  pub level : c .level ≤ 15
+  pub level : c .level ≤ topLevel
   pub marks : c .marks < 2 ^ 64
 
 -- Mark k is the bit worth 2^k.
@@ -36,4 +40,4 @@ abbrev pub lowest : Class
 lowest = classOf 0 0x0000_0000_0000_0000
 
 abbrev pub highest : Class
-highest = classOf 15 0xffff_ffff_ffff_ffff
+highest = classOf topLevel 0xffff_ffff_ffff_ffff

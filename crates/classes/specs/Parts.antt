@@ -2,7 +2,7 @@
 -- Assumes nothing.
 use Prim.Native.Nat.{ℕ, zero, suc}
 use Rattle.classes.specs.Bits.{bit, word}
-use Rattle.classes.specs.Class.{classOf}
+use Rattle.classes.specs.Class.{topLevel, classOf}
 use Rattle.classes.specs.declared.Class.{Class}
 
 -- The level and 64 marks.
@@ -15,7 +15,7 @@ part (suc k) c = bit k (c .marks)
 
 -- The greatest value of a part: 15 for the level, 1 for a mark.
 unfoldable pub topOf : ℕ → ℕ
-topOf zero = 15
+topOf zero = topLevel
 topOf (suc k) = 1
 
 -- The class whose parts are f 0, f 1, ..

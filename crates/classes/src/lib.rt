@@ -4,9 +4,12 @@
 // refuses: a level over 15 is taken as the number it is.
 ghost use mathlib.Core.Path.{_≡_};
 ghost use Prim.Native.Nat.{min, max};
-ghost use Rattle.classes.specs.Tells.{Tells};
+ghost use Rattle.laws.specs.Tells.{Tells};
 ghost use Rattle.classes.specs.Bits.{LowestOne};
 ghost use Rattle.classes.specs.Class.{Covers, HasMark, joined, commonOf, lowest, highest, classOf};
+
+// The highest level.
+pub const TOP_LEVEL: u64 = 15;
 
 pub struct Class {
     pub level: u64,
@@ -19,7 +22,7 @@ impl Class {
 
     // The class that covers every class, 15/ffffffffffffffff.
     pub const HIGHEST: Class = Class {
-        level: 15,
+        level: TOP_LEVEL,
         marks: 0xffff_ffff_ffff_ffff,
     };
 

@@ -9,7 +9,7 @@ use native.Mathlib.Decide.{decLe}
 use native.Mathlib.Omega.{arith}
 use lib.ListN.{length, getD, set, take, drop, length-set, take-append-drop}
 use lib.Seq.{getD-set-same, getD-set-other, getD-take, drop-drop, drop-set-lt, length-take-le}
-use Rattle.classes.specs.Tells.{Tells}
+use Rattle.laws.specs.Tells.{Tells}
 use Rattle.classes.specs.Class.{Covers}
 use Rattle.classes.specs.declared.Class.{Class}
 use Rattle.items.specs.Lookup.{foundPlace}

@@ -9,9 +9,9 @@ use native.Mathlib.Omega.{arith}
 use lib.ListN.{length, take, drop, length-append}
 use lib.Seq.{take-at}
 use Rattle.classes.specs.declared.Class.{Class}
-use Rattle.labelling.specs.Classes.{classes}
-use Rattle.labelling.specs.Labelling.{Wanted}
-use Rattle.rules.specs.Record.{labelsIn}
+use Rattle.meaning.specs.Classes.{classes}
+use Rattle.meaning.specs.Labelling.{Wanted}
+use Rattle.labels.specs.Labels.{labelsIn}
 use Rattle.rules.specs.Table.{bookOf}
 use Rattle.reader.specs.Reading.{readText}
 use Rattle.reader.specs.declared.ReadBook.{ReadBook}

@@ -14,8 +14,8 @@ use mir.Syntax.{w64}
 use mir.Val.{Fits}
 use types.Run.{OneOf}
 use denote.Enum as enum
-use Rattle.classes.proofs.Bools.{true-not-false}
-use Rattle.classes.proofs.Tells.{tells-no, tells-yes}
+use Rattle.laws.proofs.Bools.{true-not-false}
+use Rattle.laws.proofs.Tells.{tells-no, tells-yes}
 use Rattle.items.specs.Lookup.{findIn, foundPlace}
 use Rattle.items.specs.declared.Found.{Found}
 use Rattle.items.proofs.Found as found

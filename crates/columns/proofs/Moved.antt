@@ -6,15 +6,16 @@ use mathlib.Core.Bool.{Bool}
 use mathlib.Core.List.{List}
 use Prim.Native.Nat.{ℕ}
 use Rattle.classes.specs.declared.Class.{Class}
-use Rattle.labelling.specs.Labelling.{Wanted}
-use Rattle.labelling.specs.Parts.{Refused}
-use Rattle.labelling.specs.Classes.{classes, classParts}
+use Rattle.meaning.specs.Labelling.{Wanted}
+use Rattle.meaning.specs.Parts.{Refused}
+use Rattle.meaning.specs.Classes.{classes, classParts}
 use Rattle.items.specs.Lookup.{findIn}
 use Rattle.items.proofs.Counted.{find-counted}
 use Rattle.rules.specs.Table.{bookOf}
-use Rattle.writer.specs.Writing.{Tables}
-use Rattle.rulebook.specs.RoundTrip.{SameTables}
-use Rattle.rulebook.proofs.Buffers.{take-same, front-items}
+use Rattle.accepts.specs.Tables.{Tables}
+use Rattle.accepts.specs.Tables.{SameTables}
+use Rattle.laws.proofs.Buffers.{take-same}
+use Rattle.items.proofs.Counted.{front-items}
 use Rattle.rulebook.proofs.Counted.{tables-counted}
 use Rattle.answers.proofs.SameBooks as same
 use Rattle.exports.specs.Names.{HeaderOk, KeepsCovered}

@@ -10,9 +10,11 @@ use native.Mathlib.Omega.{arith}
 use lib.Dec.{eqb, leb}
 use lib.ListN.{length, getD, take, drop, length-drop}
 use borrow.Author.Tests.{ne-eqb}
-use Rattle.items.specs.Names.{nameRoom, nameByte, nameBytes, isName}
+use Rattle.items.specs.Names.{nameRoom, nameBytes, isName}
+use Rattle.scans.specs.Bytes.{nameByte}
 use Rattle.items.specs.Lookup.{findIn}
-use Rattle.records.specs.Fields.{fieldLen, comma, cr, lf, longerBy, afterCr, behind, Where, start, plain, quoted, closed, scan, fieldAt}
+use Rattle.records.specs.Fields.{fieldLen, longerBy, afterCr, behind, Where, start, plain, quoted, closed, scan, fieldAt}
+use Rattle.scans.specs.Ascii.{comma, cr, lf}
 use Rattle.records.specs.declared.Field.{Field}
 use Rattle.records.proofs.Steps.{start-quote}
 use Rattle.records.proofs.Within.{comma-within, line-within, end-within}

@@ -9,8 +9,8 @@ use native.Mathlib.Omega.{arith}
 use lib.ListN.{length}
 use borrow.Author.Tests.{eq-eqb, ne-eqb}
 use Rattle.classes.specs.declared.Class.{Class}
-use Rattle.labelling.specs.Parts.{Refused}
-use Rattle.rules.specs.Record.{labelsIn}
+use Rattle.meaning.specs.Parts.{Refused}
+use Rattle.labels.specs.Labels.{labelsIn}
 use Rattle.tokens.specs.Tokens.{classAt}
 use Rattle.tokens.specs.declared.ReadClass.{ReadClass}
 use Rattle.refusals.specs.Numbers.{faultNumber}
@@ -19,7 +19,7 @@ use Rattle.reader.specs.Reading.{ReadSays}
 use Rattle.reader.specs.declared.ReadBook.{ReadBook}
 use Rattle.solver.specs.Solving.{refused, said, held, SolveSays}
 use Rattle.solver.specs.declared.Solved.{Solved}
-use Rattle.writer.specs.Writing.{Tables}
+use Rattle.accepts.specs.Tables.{Tables}
 use Rattle.rulebook.proofs.RoundTrip.{read-passes}
 use Rattle.answers.specs.Answering.{readWhole}
 use Rattle.answers.proofs.Says.{Told, told}

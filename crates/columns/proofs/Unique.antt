@@ -9,8 +9,8 @@ use native.Mathlib.Omega.{arith}
 use lib.ListN.{length, getD, drop}
 use lib.Seq.{ext-getD}
 use Rattle.classes.specs.declared.Class.{Class}
-use Rattle.classes.proofs.Tells.{tells-unique}
-use Rattle.labelling.proofs.Demands.{wanted-unique, refused-unique, refused-unlabelled}
+use Rattle.laws.proofs.Tells.{tells-unique}
+use Rattle.meaning.proofs.Demands.{wanted-unique, refused-unique, refused-unlabelled}
 use Rattle.items.proofs.Lookup.{find-lowest}
 use Rattle.rules.specs.Table.{bookOf}
 use Rattle.accepts.specs.Accepted.{TableAccepted}

@@ -7,10 +7,10 @@ use Prim.Native.Nat.{ℕ, _≤_, _<_}
 use lib.Dec.{eqb}
 use lib.ListN.{length, drop}
 use Rattle.classes.specs.declared.Class.{Class}
-use Rattle.labelling.specs.Classes.{classes, classParts}
-use Rattle.labelling.specs.Labelling.{Wanted}
-use Rattle.labelling.specs.Parts.{Refused}
-use Rattle.rules.specs.Record.{labelsIn}
+use Rattle.meaning.specs.Classes.{classes, classParts}
+use Rattle.meaning.specs.Labelling.{Wanted}
+use Rattle.meaning.specs.Parts.{Refused}
+use Rattle.labels.specs.Labels.{labelsIn}
 use Rattle.rules.specs.Table.{bookOf}
 use Rattle.tokens.specs.Tokens.{classAt}
 use Rattle.tokens.specs.declared.ReadClass.{ReadClass}

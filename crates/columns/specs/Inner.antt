@@ -5,18 +5,19 @@ use mathlib.Core.Bool.{Bool, true, false, cond}
 use mathlib.Core.List.{List, []}
 use Prim.Native.Nat.{ℕ, _≤_, _<_}
 use lib.ListN.{length, getD, drop}
-use Rattle.classes.specs.Tells.{Tells}
+use Rattle.laws.specs.Tells.{Tells}
 use Rattle.classes.specs.Class.{Covers}
 use Rattle.classes.specs.declared.Class.{Class}
-use Rattle.labelling.specs.Classes.{classes, classParts}
-use Rattle.labelling.specs.Labelling.{Wanted}
-use Rattle.labelling.specs.Parts.{Refused}
+use Rattle.meaning.specs.Classes.{classes, classParts}
+use Rattle.meaning.specs.Labelling.{Wanted}
+use Rattle.meaning.specs.Parts.{Refused}
 use Rattle.items.specs.declared.Found.{Found}
-use Rattle.rules.specs.Record.{labelsIn}
+use Rattle.labels.specs.Labels.{labelsIn}
 use Rattle.rules.specs.Table.{bookOf}
 use Rattle.refusals.specs.Numbers.{faultNumber}
 use Rattle.refusals.specs.declared.Fault.{Fault}
-use Rattle.records.specs.Fields.{fieldLen, quote, fieldAt}
+use Rattle.records.specs.Fields.{fieldLen, fieldAt}
+use Rattle.scans.specs.Ascii.{quote}
 use Rattle.records.specs.Rows.{Row, line, ends, cut, broken, rowOf, whole, more, bad, mostBytes, mostFields}
 use Rattle.exports.specs.Names.{columnItem, HeaderOk}
 use Rattle.exports.specs.Text.{csvSyntax, csvHeader}

@@ -10,8 +10,8 @@ use solver::Solved;
 use solver::solve;
 use tokens::ReadClass;
 use tokens::read_class;
-ghost use Rattle.rules.specs.Record.{labelsIn};
-ghost use Rattle.writer.specs.Writing.{Tables};
+ghost use Rattle.labels.specs.Labels.{labelsIn};
+ghost use Rattle.accepts.specs.Tables.{Tables};
 ghost use Rattle.columns.specs.Columns.{ColumnsSays};
 ghost use Rattle.columns.specs.Inner.{ClassSays, LabelSays};
 

@@ -5,7 +5,7 @@ use mathlib.Core.Bool.{Bool}
 use mathlib.Core.List.{List, [], _∷_, _++_}
 use Prim.Native.Nat.{ℕ, _+_, _≤_}
 use lib.ListN.{length, drop}
-use Rattle.records.specs.Fields.{comma}
+use Rattle.scans.specs.Ascii.{comma}
 use Rattle.exports.specs.Rows.{taken}
 
 -- Each field with a comma behind it, one after the other.

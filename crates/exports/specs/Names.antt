@@ -6,12 +6,12 @@ use mathlib.Core.List.{List, [], _∷_}
 use Prim.Native.Nat.{ℕ, _<_}
 use lib.Dec.{eqb}
 use lib.ListN.{length, getD}
-use Rattle.classes.specs.Tells.{Tells}
+use Rattle.laws.specs.Tells.{Tells}
 use Rattle.classes.specs.Class.{Covers}
 use Rattle.classes.specs.declared.Class.{Class}
 use Rattle.items.specs.Lookup.{findIn}
 use Rattle.items.specs.declared.Found.{Found}
-use Rattle.records.specs.Fields.{quote}
+use Rattle.scans.specs.Ascii.{quote}
 
 -- What stands between quotes, with "doubled quotes made one" and the closing quote off.
 unfoldable pub undoubled : List ℕ → List ℕ

@@ -5,7 +5,7 @@ use mathlib.Core.Bool.{Bool, true, false, cond}
 use mathlib.Core.List.{List, [], _∷_, _++_}
 use Prim.Native.Nat.{ℕ, _+_, _<_}
 use lib.ListN.{length, getD}
-use Rattle.records.specs.Fields.{comma, cr, lf}
+use Rattle.scans.specs.Ascii.{comma, cr, lf}
 use Rattle.exports.specs.Rows.{taken}
 
 -- Of each record the columns that are kept, in order.

@@ -2,15 +2,16 @@
 -- or neither is. It rests on what each answer tells. Assumes nothing.
 use mathlib.Core.Path.{_≡_, sym, _∙_}
 use mathlib.Core.List.{List}
-use Prim.Native.Nat.{ℕ, _*_, _≤_, _<_}
+use Prim.Native.Nat.{ℕ, _+_, _*_, _≤_, _<_}
 use native.Mathlib.Omega.{arith}
 use lib.ListN.{length}
+use Rattle.laws.proofs.Buffers.{SameFront}
 use Rattle.items.specs.Names.{nameRoom}
 use Rattle.items.specs.Table.{entryByte, NameAt, ItemsOk}
 use Rattle.items.specs.Lookup.{findIn}
 use Rattle.items.specs.declared.Found.{Found}
-use Rattle.items.specs.declared.Found.the-variants.{At, Absent, BadTable}
-use Rattle.items.proofs.Lookup.{HasName, Sized, FindSays, find-says, find-is}
+use Rattle.items.specs.declared.Found.the-variants.{At, Absent, Refused}
+use Rattle.items.proofs.Lookup.{HasName, Sized, FoundTells, find-says, find-is}
 
 -- Two tables with room for n items are equal up to n.
 pub record SameItems (n : ℕ) (t u : List ℕ) : Type 0 where
@@ -28,7 +29,7 @@ module _ {n : ℕ} {t u : List ℕ} (s : SameItems n t u) where
   sized : Sized t n → Sized u n
   sized z = record { size = z .size; room = s .right }
 
-says : {n : ℕ} {t u : List ℕ} → SameItems n t u → (name : List ℕ) (x : Found) → FindSays t n name x → FindSays u n name x
+says : {n : ℕ} {t u : List ℕ} → SameItems n t u → (name : List ℕ) (x : Found) → FoundTells t n name x → FoundTells u n name x
 says s name (At i) f = record {
   sized = sized s (f .sized);
   spelled = f .spelled;
@@ -37,7 +38,7 @@ says s name (At i) f = record {
   lowest = λ j l h. f .lowest j l (has-name (same-items-sym s) (omega (arith, f .item)) h);
 }
 says s name Absent f = record { sized = sized s (f .sized); none = λ e i l h. f .none e i l (has-name (same-items-sym s) l h) }
-says s name BadTable f = λ z. f (sized (same-items-sym s) z)
+says s name (Refused r) f = record { is = f .is; wrong = λ z. f .wrong (sized (same-items-sym s) z) }
 
 pub find-counted : {n : ℕ} {t u : List ℕ} → SameItems n t u → (name : List ℕ) → findIn t n name ≡ findIn u n name
 find-counted {n} {t} {u} s name = find-is u n name (findIn t n name) (says s name (findIn t n name) (find-says t n name))
@@ -62,3 +63,8 @@ items-counted s o = record {
         (record { bytes = λ k g. s .bytes i k (omega arith) g ∙ e .bytes k g ∙ sym (s .bytes j k h g) });
   };
 }
+
+-- Item tables with the same front have the same items.
+pub front-items : {n : ℕ} {t u : List ℕ} → SameFront (n * nameRoom) t u → n * nameRoom ≤ length t → n * nameRoom ≤ length u → SameItems n t u
+unfolding entryByte
+front-items s h g = record { left = h; right = g; bytes = λ i k l m. s .same (i * nameRoom + k) (omega arith) }

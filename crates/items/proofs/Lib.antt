@@ -1,6 +1,6 @@
--- Why it is true, and what callers cite: the first number below a bound, names, the item table, looking up a name, and the count.
-pub mod Search
+-- Why it is true, and what callers cite: names, the item table, looking up a name, and the count.
 pub mod Names
 pub mod Table
 pub mod Lookup
 pub mod Counted
+pub mod Entries

@@ -2,7 +2,7 @@
 -- laws of the table and of searches. Assumes nothing.
 use mathlib.Core.Path.{_≡_, refl, sym, ap, _∙_, subst}
 use mathlib.Core.Bool.{Bool, true, false, cond}
-use mathlib.Core.List.{List}
+use mathlib.Core.List.{List, [], _∷_}
 use mathlib.Core.Logic.{_⊎_, inl, inr, _↔_}
 use Prim.Native.Nat.{ℕ, _*_, _≤_, _<_}
 use native.Mathlib.Decide.{decLe}
@@ -11,17 +11,21 @@ use native.Mathlib.Omega.{arith}
 use lib.Dec.{ltb, leb}
 use lib.ListN.{length, getD}
 use borrow.Author.Tests.{eqb-true, eq-eqb, leb-true, le-leb, ltb-true, ltb-false}
-use Rattle.classes.specs.Tells.{Tells}
-use Rattle.classes.proofs.Bools.{true-not-false, and-left, and-right}
-use Rattle.classes.proofs.Every.{every-all, every-at}
-use Rattle.classes.proofs.Tells.{tells-unique, tells-test}
-use Rattle.items.specs.Search.{firstBelow}
+use Rattle.laws.specs.Tells.{Tells}
+use Rattle.laws.proofs.Bools.{true-not-false, and-left, and-right}
+use Rattle.laws.proofs.Every.{every-all, every-at}
+use Rattle.laws.proofs.Tells.{tells-unique, tells-test}
+use Rattle.laws.specs.Search.{firstBelow}
+use Rattle.refusals.specs.declared.Refusal.{Refusal}
+use Rattle.refusals.specs.Said.{Said, success, refused}
+use Rattle.refusals.proofs.Said.{said-injective, refusalOf, refusal-back}
 use Rattle.items.specs.Names.{nameRoom, isName}
-use Rattle.items.specs.Table.{mostItems, tableFits, entryByte, nameLen, nameOf, SameEntry, ItemsOk}
-use Rattle.items.specs.Lookup.{foundNumber, foundPlace, sameName, lookUp, findIn}
+use Rattle.items.specs.Table.{tableFits, entryByte, nameLen, nameOf, SameEntry, ItemsOk}
+use Rattle.refusals.specs.Sizes.{mostItems}
+use Rattle.items.specs.Lookup.{saidFound, badTable, sameName, lookUp, findIn, FindSays}
 use Rattle.items.specs.declared.Found.{Found}
-use Rattle.items.specs.declared.Found.the-variants.{At, Absent, BadTable}
-use Rattle.items.proofs.Search.{First, first-below}
+use Rattle.items.specs.declared.Found.the-variants.{At, Absent, Refused}
+use Rattle.laws.proofs.Search.{First, first-below}
 use Rattle.items.proofs.Names.{spelled-name}
 use Rattle.items.proofs.Table.{named-spelled, named-rest, nameOf-at, nameOf-past}
 
@@ -77,13 +81,17 @@ pub record NotFound (t : List ℕ) (n : ℕ) (name : List ℕ) : Type 0 where
   pub sized : Sized t n
   pub none : isName name ≡ true → (i : ℕ) → i < n → HasName t i name → ⊥
 
--- BadTable: the size is wrong.
-abbrev pub FindSays : List ℕ → ℕ → List ℕ → Found → Type 0
-FindSays t n name (At i) = FoundAt t n name i
-FindSays t n name Absent = NotFound t n name
-FindSays t n name BadTable = Sized t n → ⊥
+-- Refused: the size is wrong, and the refusal is BadTable at 0.
+pub record WrongSize (t : List ℕ) (n : ℕ) (r : Refusal) : Type 0 where
+  pub is : Refused r ≡ badTable
+  pub wrong : Sized t n → ⊥
 
-pub find-says : (t : List ℕ) (n : ℕ) (name : List ℕ) → FindSays t n name (findIn t n name)
+abbrev pub FoundTells : List ℕ → ℕ → List ℕ → Found → Type 0
+FoundTells t n name (At i) = FoundAt t n name i
+FoundTells t n name Absent = NotFound t n name
+FoundTells t n name (Refused r) = WrongSize t n r
+
+pub find-says : (t : List ℕ) (n : ℕ) (name : List ℕ) → FoundTells t n name (findIn t n name)
 unfolding findIn lookUp
 find-says t n name = says (tableFits t n) refl (isName name) refl (ltb first n) refl
   where
@@ -94,8 +102,8 @@ find-says t n name = says (tableFits t n) refl (isName name) refl (ltb first n) 
     search-of = first-below n (λ i. sameName t i name)
 
     says : (b : Bool) → tableFits t n ≡ b → (d : Bool) → isName name ≡ d → (u : Bool) → ltb first n ≡ u
-        → FindSays t n name (cond b (cond d (cond u (At first) Absent) Absent) BadTable)
-    says false e d f u g = fits-tells t n .fails e
+        → FoundTells t n name (cond b (cond d (cond u (At first) Absent) Absent) badTable)
+    says false e d f u g = record { is = refl; wrong = fits-tells t n .fails e }
     says true e false f u g = record { sized = fits-tells t n .holds e; none = λ h. absurd (true-not-false h f) }
     says true e true f false g = record {
       sized = fits-tells t n .holds e;
@@ -117,49 +125,60 @@ lowest-le {i = i} {j = j} f g = go (decLe i j)
     go (no l) = absurd (f .lowest j (omega arith) (g .here))
 
 -- Any two answers that tell what they should are equal.
-pub says-unique : (t : List ℕ) (n : ℕ) (name : List ℕ) (x y : Found) → FindSays t n name x → FindSays t n name y → x ≡ y
+pub says-unique : (t : List ℕ) (n : ℕ) (name : List ℕ) (x y : Found) → FoundTells t n name x → FoundTells t n name y → x ≡ y
 says-unique t n name (At i) (At j) f g = ap At (le-antisymm (lowest-le f g) (lowest-le g f))
 says-unique t n name (At i) Absent f g = absurd (g .none (f .spelled) i (f .item) (f .here))
-says-unique t n name (At i) BadTable f g = absurd (g (f .sized))
+says-unique t n name (At i) (Refused r) f g = absurd (g .wrong (f .sized))
 says-unique t n name Absent (At j) f g = absurd (f .none (g .spelled) j (g .item) (g .here))
 says-unique t n name Absent Absent f g = refl
-says-unique t n name Absent BadTable f g = absurd (g (f .sized))
-says-unique t n name BadTable (At j) f g = absurd (f (g .sized))
-says-unique t n name BadTable Absent f g = absurd (f (g .sized))
-says-unique t n name BadTable BadTable f g = refl
+says-unique t n name Absent (Refused r) f g = absurd (g .wrong (f .sized))
+says-unique t n name (Refused r) (At j) f g = absurd (f .wrong (g .sized))
+says-unique t n name (Refused r) Absent f g = absurd (f .wrong (g .sized))
+says-unique t n name (Refused r) (Refused s) f g = f .is ∙ sym (g .is)
 
-pub find-is : (t : List ℕ) (n : ℕ) (name : List ℕ) (x : Found) → FindSays t n name x → x ≡ findIn t n name
+pub find-is : (t : List ℕ) (n : ℕ) (name : List ℕ) (x : Found) → FoundTells t n name x → x ≡ findIn t n name
 find-is t n name x f = says-unique t n name x (findIn t n name) f (find-says t n name)
 
 -- At i: item i has the name, and it is the lowest.
 pub find-lowest : (t : List ℕ) (n : ℕ) (name : List ℕ) (i : ℕ) → findIn t n name ≡ At i → FoundAt t n name i
-find-lowest t n name i e = subst (FindSays t n name) e (find-says t n name)
+find-lowest t n name i e = subst (FoundTells t n name) e (find-says t n name)
 
 -- Absent: the bytes are no name, or no item has it.
 pub find-absent : (t : List ℕ) (n : ℕ) (name : List ℕ) → findIn t n name ≡ Absent → NotFound t n name
-find-absent t n name e = subst (FindSays t n name) e (find-says t n name)
+find-absent t n name e = subst (FoundTells t n name) e (find-says t n name)
 
--- BadTable exactly if there are over 256 items or the buffer has no room for them.
-pub find-bad : (t : List ℕ) (n : ℕ) (name : List ℕ) → (findIn t n name ≡ BadTable) ↔ ((mostItems < n) ⊎ (length t < n * nameRoom))
-find-bad t n name = (λ e. wrong (subst (FindSays t n name) e (find-says t n name)) (decLe n mostItems) (decLe (n * nameRoom) (length t)), bad)
+-- Refused exactly if there are over 256 items or the buffer has no room for them.
+pub find-bad : (t : List ℕ) (n : ℕ) (name : List ℕ) → (findIn t n name ≡ badTable) ↔ ((mostItems < n) ⊎ (length t < n * nameRoom))
+find-bad t n name = (λ e. wrong (subst (FoundTells t n name) e (find-says t n name) .wrong) (decLe n mostItems) (decLe (n * nameRoom) (length t)), bad)
   where
     wrong : (Sized t n → ⊥) → Dec (n ≤ mostItems) → Dec (n * nameRoom ≤ length t) → (mostItems < n) ⊎ (length t < n * nameRoom)
     wrong f (yes h) (yes g) = absurd (f (record { size = h; room = g }))
     wrong f (yes h) (no g) = inr (omega arith)
     wrong f (no h) g = inl (omega arith)
 
-    bad : (mostItems < n) ⊎ (length t < n * nameRoom) → findIn t n name ≡ BadTable
-    bad (inl h) = sym (find-is t n name BadTable (λ s. omega (arith, s .size)))
-    bad (inr h) = sym (find-is t n name BadTable (λ s. omega (arith, s .room)))
+    bad : (mostItems < n) ⊎ (length t < n * nameRoom) → findIn t n name ≡ badTable
+    bad (inl h) = sym (find-is t n name badTable (record { is = refl; wrong = λ s. omega (arith, s .size) }))
+    bad (inr h) = sym (find-is t n name badTable (record { is = refl; wrong = λ s. omega (arith, s .room) }))
 
--- The refusal with number 10 is BadTable, at 0, and there is no other.
-pub bad-number : (x : Found) → foundNumber x ≡ 10 → x ≡ BadTable
-bad-number (At i) e = absurd (omega arith)
-bad-number Absent e = absurd (omega arith)
-bad-number BadTable e = refl
+-- An answer is known by what it says.
+abbrev firstOr : List ℕ → Found
+firstOr [] = Absent
+firstOr (i ∷ l) = At i
 
-pub bad-place : (x : Found) → x ≡ BadTable → (foundNumber x ≡ 10) × (foundPlace x ≡ 0)
-bad-place x e = (ap foundNumber e, ap foundPlace e)
+abbrev foundOf : Said → Found
+foundOf (success c l) = firstOr l
+foundOf (refused n p) = Refused (refusalOf n p)
+
+found-back : (x : Found) → foundOf (saidFound x) ≡ x
+found-back (At i) = refl
+found-back Absent = refl
+found-back (Refused r) = ap Refused (refusal-back r)
+
+pub find-told : {t : List ℕ} {n : ℕ} {name : List ℕ} {r : Found} → FindSays t n name (saidFound r) → r ≡ findIn t n name
+find-told s = said-injective saidFound foundOf found-back (s .answer)
+
+pub find-unique : {t : List ℕ} {n : ℕ} {name : List ℕ} {r s : Found} → FindSays t n name (saidFound r) → FindSays t n name (saidFound s) → r ≡ s
+find-unique s u = find-told s ∙ sym (find-told u)
 
 -- In a table that no writer refuses, the name of each item is a name, the item has it, and it finds that item.
 pub name-is-name : {t : List ℕ} {n : ℕ} → ItemsOk t n → (i : ℕ) → i < n → isName (nameOf t i) ≡ true

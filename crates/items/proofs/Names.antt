@@ -8,10 +8,11 @@ use native.Mathlib.Omega.{arith}
 use lib.Dec.{leb}
 use lib.ListN.{length, getD}
 use borrow.Author.Tests.{le-leb, leb-true}
-use Rattle.classes.specs.Tells.{Tells}
-use Rattle.classes.proofs.Bools.{true-not-false, and-left, and-right}
-use Rattle.classes.proofs.Tells.{tells-test}
-use Rattle.items.specs.Names.{nameRoom, nameByte, nameBytes, isName}
+use Rattle.laws.specs.Tells.{Tells}
+use Rattle.laws.proofs.Bools.{true-not-false, and-left, and-right}
+use Rattle.laws.proofs.Tells.{tells-test}
+use Rattle.items.specs.Names.{nameRoom, nameBytes, isName}
+use Rattle.scans.specs.Bytes.{nameByte}
 
 -- A zero byte is no byte of a name.
 pub zero-no-byte : nameByte 0 ≡ false

@@ -11,7 +11,7 @@ use lib.Seq.{getD-take, getD-drop}
 use borrow.Author.Tests.{eqb-false, eq-eqb, ne-eqb}
 use Rattle.items.specs.Names.{nameRoom}
 use Rattle.items.specs.Table.{entryByte, nameLen, nameOf, ZerosFrom, NameAt}
-use Rattle.items.proofs.Search.{First, first-below, first-is}
+use Rattle.laws.proofs.Search.{First, first-below, first-is}
 use Rattle.items.proofs.Names.{Spelled, byte-not-zero}
 
 -- Past the table's end every byte is 0, so a byte that is not lies inside.

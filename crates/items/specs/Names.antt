@@ -1,18 +1,15 @@
 -- Names, as document 01 has them: "A NAME is 1 to 16 bytes of a-z, 0-9 and hyphen."
 -- Assumes nothing.
-use mathlib.Core.Bool.{Bool, true, _&&_, _||_}
+use mathlib.Core.Bool.{Bool, true, _&&_}
 use mathlib.Core.List.{List, [], _∷_}
 use Prim.Native.Nat.{ℕ}
-use lib.Dec.{leb, eqb}
+use lib.Dec.{leb}
 use lib.ListN.{length}
+use Rattle.scans.specs.Bytes.{nameByte}
 
 -- The bytes of the longest name, which is the room that a table has for each.
 abbrev pub nameRoom : ℕ
 nameRoom = 16
-
--- "bytes of a-z, 0-9 and hyphen": 97 to 122, 48 to 57, and 45.
-unfoldable pub nameByte : ℕ → Bool
-nameByte b = leb 97 b && leb b 122 || leb 48 b && leb b 57 || eqb b 45
 
 unfoldable pub nameBytes : List ℕ → Bool
 nameBytes [] = true

@@ -6,12 +6,10 @@ use mathlib.Core.List.{List}
 use Prim.Native.Nat.{ℕ, _+_, _*_, _≤_, _<_}
 use lib.Dec.{leb, eqb}
 use lib.ListN.{length, getD, take, drop}
-use Rattle.items.specs.Search.{firstBelow}
-use Rattle.items.specs.Names.{nameRoom, nameByte}
-
--- "Sizes: .. 0 to 256 items".
-abbrev pub mostItems : ℕ
-mostItems = 256
+use Rattle.laws.specs.Search.{firstBelow}
+use Rattle.refusals.specs.Sizes.{mostItems}
+use Rattle.items.specs.Names.{nameRoom}
+use Rattle.scans.specs.Bytes.{nameByte}
 
 -- "Each table comes with its count; .. a buffer too short for it is BAD_TABLE": at most 256 items, and room for each.
 unfoldable pub tableFits : List ℕ → ℕ → Bool

@@ -1,43 +1,55 @@
 // The item table: names of 1 to 16 bytes, each in 16 bytes with zeros behind it, lent as one slice with the number of its items.
 //
 // Every function takes any input: a byte past the table's end is 0, and nothing is required.
+use refusals::Fault;
+use refusals::MOST_ITEMS;
+use refusals::Refusal;
 ghost use mathlib.Core.Path.{_≡_};
-ghost use Rattle.classes.specs.Tells.{Tells};
-ghost use Rattle.items.specs.Search.{firstBelow};
-ghost use Rattle.items.specs.Names.{nameByte, isName};
+ghost use Rattle.laws.specs.Tells.{Tells};
+ghost use Rattle.laws.specs.Search.{firstBelow};
+ghost use Rattle.items.specs.Names.{isName};
 ghost use Rattle.items.specs.Table.{entryByte, nameLen, SameEntry, ZerosFrom, NameAt, NewAt, ItemsOk};
-ghost use Rattle.items.specs.Lookup.{sameName, findIn};
-
-// The most items that a table has.
-pub const MOST_ITEMS: usize = 256;
+ghost use Rattle.items.specs.Lookup.{saidFound, badTable, sameName, FindSays};
 
 // The room that a table has for each name, and the most bytes of a name.
 pub const NAME_ROOM: usize = 16;
 
-// What looking up a name answers: refusal 10 at 0 where the table is too long or its buffer too short, that no item has the name, or the
-// number of the item, from 0.
+// The bytes of a table of the most items.
+pub const WHOLE_TABLE: usize = MOST_ITEMS * NAME_ROOM;
+
+// What looking up a name answers: the number of the item, from 0; that no item has the name; or a refusal.
 pub enum Found {
     At(usize),
     Absent,
-    BadTable,
+    Refused(Refusal),
 }
 
-// BadTable where there are over 256 items or the buffer has no room for n; Absent where the bytes are no name or no item has it; else the
+// BadTable at 0 where there are over 256 items or the buffer has no room for n; Absent where the bytes are no name or no item has it; else the
 // lowest number of an item with these bytes.
 pub fn find(items: &[u8], n: usize, name: &[u8]) -> Found
-    ensures { λ r. ⌜ r ≡ findIn (now (items .entry)) n (now (name .entry)) ⌝ }
+    ensures { λ r. ⌜ FindSays (now (items .entry)) n (now (name .entry)) (saidFound r) ⌝ }
 {
     if MOST_ITEMS < n {
-        return Found::BadTable;
+        return bad_table();
     }
     if items.len() < n * NAME_ROOM {
-        return Found::BadTable;
+        return bad_table();
     }
     if !is_name(name) {
         return Found::Absent;
     }
     let i = first_same(items, n, name);
     if i < n { Found::At(i) } else { Found::Absent }
+}
+
+// The refusal of a table by its size.
+fn bad_table() -> Found
+    ensures { λ r. ⌜ r ≡ badTable ⌝ }
+{
+    Found::Refused(Refusal {
+        fault: Fault::BadTable,
+        place: 0,
+    })
 }
 
 // No where there are over 256 items, the buffer has no room for n, or one of the n entries is no name with zeros behind it or the same
@@ -64,20 +76,8 @@ pub fn items_ok(items: &[u8], n: usize) -> bool
     true
 }
 
-// Whether a byte is one that names are made of: a-z, 0-9 and hyphen.
-pub fn is_name_byte(b: u8) -> bool
-    ensures { λ r. ⌜ r ≡ nameByte b ⌝ }
-{
-    match b {
-        b'a'..=b'z' => true,
-        b'0'..=b'9' => true,
-        b'-' => true,
-        _ => false,
-    }
-}
-
 // Whether these bytes are a name: 1 to 16 of a-z, 0-9 and hyphen.
-pub fn is_name(name: &[u8]) -> bool
+fn is_name(name: &[u8]) -> bool
     ensures { λ r. ⌜ r ≡ isName (now (name .entry)) ⌝ }
 {
     if name.len() < 1 {
@@ -88,7 +88,7 @@ pub fn is_name(name: &[u8]) -> bool
     }
     let mut k = 0;
     while k < name.len() {
-        if !is_name_byte(name[k]) {
+        if !scans::is_name_byte(name[k]) {
             return false;
         }
         k += 1;

@@ -9,7 +9,7 @@ use native.Mathlib.Omega.{arith}
 use lib.Dec.{eqb}
 use lib.ListN.{length, getD, take, drop, drop-of-length-le, List·getD-eq-default}
 use borrow.Author.Tests.{ne-eqb, eqb-true}
-use Rattle.classes.proofs.Bools.{true-not-false, and-left, and-right}
+use Rattle.laws.proofs.Bools.{true-not-false, and-left, and-right}
 use Rattle.keys.specs.Keys.{keyText, startsWith, foundOr, keyOr, keyAt, nextRows, nextAllowed}
 use Rattle.keys.specs.declared.Key.{Key}
 use Rattle.keys.specs.declared.ReadKey.{ReadKey}

@@ -1,3 +1,2 @@
--- Why it is true: searches for the first that fails, and what the tests of labels tell.
-pub mod First
+-- Why it is true: what the tests of labels tell.
 pub mod Tested

@@ -1,15 +1,17 @@
--- What the tests of lent labels tell: whether there are enough of them, and whether one level is in range.
+-- What the tests of lent labels tell: whether there are enough of them, and whether one level is in range; and a label by its two parts.
 -- Assumes nothing.
-use mathlib.Core.Path.{_≡_, sym}
+use mathlib.Core.Path.{_≡_, ap₂, _∙_}
 use mathlib.Core.Bool.{false}
 use mathlib.Core.List.{List}
 use Prim.Native.Nat.{ℕ, _≤_, _<_}
 use native.Mathlib.Omega.{arith}
 use lib.Dec.{leb}
-use lib.ListN.{length, getD, List·getD-eq-default}
-use Rattle.classes.specs.Tells.{Tells}
-use Rattle.classes.proofs.Tells.{tells-no, tells-leb}
-use Rattle.labels.specs.Labels.{LevelInRange, Room}
+use lib.ListN.{length, getD}
+use Rattle.classes.specs.Class.{topLevel, classOf}
+use Rattle.classes.specs.declared.Class.{Class}
+use Rattle.laws.specs.Tells.{Tells}
+use Rattle.laws.proofs.Tells.{tells-no, tells-leb}
+use Rattle.labels.specs.Labels.{labelsIn, LevelInRange, Room}
 
 -- Whether there is room.
 module _ (n : ℕ) (levels marks : List ℕ) where
@@ -21,11 +23,12 @@ module _ (n : ℕ) (levels marks : List ℕ) where
 
 -- Level i, of which l was read.
 module _ {levels : List ℕ} {i l : ℕ} (e : l ≡ getD levels i 0) where
-  pub level-in-range : l ≤ 15 → LevelInRange levels i
+  pub level-in-range : l ≤ topLevel → LevelInRange levels i
   level-in-range s = record { most = omega arith }
 
-  pub level-over : 15 < l → LevelInRange levels i → ⊥
+  pub level-over : topLevel < l → LevelInRange levels i → ⊥
   level-over s p = omega (arith, p .most)
 
-pub level-past : (levels : List ℕ) (i : ℕ) → length levels ≤ i → 0 ≡ getD levels i 0
-level-past levels i h = sym (List·getD-eq-default levels 0 {n = i} h)
+-- A label made of its level and its marks.
+pub label-made : (levels marks : List ℕ) (i l m : ℕ) (x : Class) → l ≡ getD levels i 0 → m ≡ getD marks i 0 → x ≡ classOf l m → x ≡ labelsIn levels marks i
+label-made levels marks i l m x p q e = e ∙ ap₂ classOf p q

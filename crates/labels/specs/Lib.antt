@@ -1,3 +1,2 @@
--- What the contracts of `labels` cite: the first of several of which a statement fails, and which lent labels are right.
-pub mod First
+-- What the contracts of `labels` cite: labels held in two lists, and which of them are right.
 pub mod Labels

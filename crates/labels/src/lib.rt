@@ -1,11 +1,20 @@
-// Labels, lent as two slices, levels and marks: whether there are enough of them, and the first one whose level is out of range.
+// Labels, lent as two slices, levels and marks: the label of an item, whether there are enough of them, and the first one whose level is out of range.
 //
-// Nothing is required. A level past the end of the levels is 0.
+// Nothing is required. Past the end of the levels and of the marks there is zero.
+use classes::Class;
+use classes::TOP_LEVEL;
 ghost use mathlib.Core.Path.{_≡_};
 ghost use lib.ListN.{getD};
-ghost use Rattle.classes.specs.Tells.{Tells};
-ghost use Rattle.labels.specs.First.{Sought};
-ghost use Rattle.labels.specs.Labels.{LevelInRange, Room};
+ghost use Rattle.laws.specs.Tells.{Tells};
+ghost use Rattle.laws.specs.First.{Sought};
+ghost use Rattle.labels.specs.Labels.{labelsIn, LevelInRange, Room};
+
+// The label of item i, and the lowest class past the end of the labels.
+pub fn label_at(levels: &[u64], marks: &[u64], i: u64) -> Class
+    ensures { λ x. ⌜ x ≡ labelsIn (now (levels .entry)) (now (marks .entry)) i ⌝ }
+{
+    Class::new(value_at(levels, i), value_at(marks, i))
+}
 
 // Whether there is a label for each of n items.
 pub fn has_room(levels: &[u64], marks: &[u64], n: usize) -> bool
@@ -23,7 +32,7 @@ pub fn first_bad(levels: &[u64], n: usize) -> usize
 {
     let mut i: usize = 0;
     while i < n {
-        if 15 < level_at(levels, i) {
+        if TOP_LEVEL < value_at(levels, i as u64) {
             return i;
         }
         i += 1;
@@ -31,9 +40,9 @@ pub fn first_bad(levels: &[u64], n: usize) -> usize
     n
 }
 
-// Level i, and 0 past the end of the levels.
-fn level_at(levels: &[u64], i: usize) -> u64
-    ensures { λ r. ⌜ r ≡ getD (now (levels .entry)) i 0 ⌝ }
+fn value_at(values: &[u64], i: u64) -> u64
+    ensures { λ x. ⌜ x ≡ getD (now (values .entry)) i 0 ⌝ }
 {
-    if i < levels.len() { levels[i] } else { 0 }
+    let at = i as usize;
+    if at < values.len() { values[at] } else { 0 }
 }

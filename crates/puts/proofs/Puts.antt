@@ -19,8 +19,10 @@ use Rattle.tokens.specs.Numbers.{digit, digitsOf, decimalLen, decimalOf}
 use Rattle.tokens.specs.Tokens.{countText, classText}
 use Rattle.tokens.proofs.Values.{digits-length}
 use Rattle.tokens.proofs.Tokens.{class-length}
-use Rattle.puts.specs.Writing.{over, Put, DigitRoom, DigitsPut}
-use Rattle.puts.proofs.Over.{put-there, put-nowhere, over-is, over-none, over-set, over-over, over-length, set-over}
+use Rattle.puts.specs.Writing.{Put, DigitRoom, DigitsPut}
+use Rattle.laws.specs.Over.{over}
+use Rattle.puts.proofs.Placed.{put-there, put-nowhere}
+use Rattle.laws.proofs.Over.{over-is, over-none, over-set, over-over, over-length, set-over}
 
 -- The test for room.
 pub room-yes : (m n : ℕ) (b : Bool) → b ≡ leb m n → not b ≡ false → m ≤ n

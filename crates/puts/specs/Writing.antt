@@ -2,15 +2,12 @@
 -- Assumes nothing.
 use mathlib.Core.Path.{_≡_}
 use mathlib.Core.Bool.{Bool, cond}
-use mathlib.Core.List.{List, _++_}
+use mathlib.Core.List.{List}
 use Prim.Native.Nat.{ℕ, _+_, _≤_, _<_}
 use lib.Dec.{leb}
-use lib.ListN.{length, take, drop}
+use lib.ListN.{length}
+use Rattle.laws.specs.Over.{over}
 use Rattle.tokens.specs.Numbers.{digitsOf}
-
--- The buffer d with x over what it had from the place on.
-unfoldable pub over : List ℕ → ℕ → List ℕ → List ℕ
-over d at x = take at d ++ x ++ drop (at + length x) d
 
 -- There is room for n bytes.
 abbrev pub hasRoom : List ℕ → ℕ → ℕ → Bool

@@ -11,12 +11,13 @@ use mir.Val.{Fits}
 use borrow.Author.Tests.{lt-ltb, le-ltb, le-leb, lt-leb}
 use Rattle.items.specs.Names.{nameRoom}
 use Rattle.rules.specs.Table.{ruleWords}
-use Rattle.puts.specs.Writing.{over, Put}
-use Rattle.puts.proofs.Over.{put-buffer}
+use Rattle.puts.specs.Writing.{Put}
+use Rattle.laws.specs.Over.{over}
+use Rattle.puts.proofs.Placed.{put-buffer}
 use Rattle.refusals.specs.declared.Fault.{Fault}
 use Rattle.reader.specs.declared.ReadBook.{ReadBook}
 use Rattle.reader.specs.Lines.{Result, emptyNames, emptyWords}
-use Rattle.refusals.specs.Numbers.{mostText}
+use Rattle.refusals.specs.Sizes.{mostText}
 use Rattle.reader.specs.Reading.{readText, readAnswer, ReadSays}
 use Rattle.reader.specs.Inner.{StartsEmpty, resultIs}
 use Rattle.reader.proofs.Whole.{FewRead, read-few}

@@ -16,20 +16,20 @@ use mir.Val.{Fits}
 use types.Run.{OneOf}
 use denote.Enum as enum
 use borrow.Author.Tests.{eq-eqb, ne-eqb, lt-ltb, ltb-true}
-use Rattle.classes.specs.Every.{everyBelow}
-use Rattle.classes.proofs.Bools.{true-not-false}
-use Rattle.classes.proofs.Every.{every-all, every-at}
-use Rattle.items.specs.Names.{nameByte}
+use Rattle.laws.specs.Every.{everyBelow}
+use Rattle.laws.proofs.Bools.{true-not-false}
+use Rattle.laws.proofs.Every.{every-all, every-at}
+use Rattle.scans.specs.Bytes.{nameByte}
 use Rattle.items.specs.Lookup.{findIn}
 use Rattle.items.specs.declared.Found.{Found}
 use Rattle.items.proofs.Found as found
 use Rattle.scans.specs.Bytes.{runLen}
 use Rattle.scans.proofs.Runs.{run-le}
-use Rattle.puts.specs.Writing.{over}
-use Rattle.puts.proofs.Over.{over-none}
+use Rattle.laws.specs.Over.{over}
+use Rattle.laws.proofs.Over.{over-none}
 use Rattle.reader.specs.Names.{isItem, itemNumber, everyItem, numbersOf, rising}
 use Rattle.reader.specs.Lines.{rightItemAt}
-use Rattle.refusals.specs.Numbers.{mostText}
+use Rattle.refusals.specs.Sizes.{mostText}
 use Rattle.reader.specs.Inner.{LookReady, LooksUp}
 use Rattle.reader.proofs.Put.{over-next}
 

@@ -6,8 +6,9 @@ use Prim.Native.Nat.{ℕ, _+_, _*_, _≤_, _<_}
 use native.Mathlib.Omega.{arith}
 use lib.ListN.{length, set}
 use Rattle.rules.specs.declared.Rule.{Rule}
-use Rattle.puts.specs.Writing.{over}
-use Rattle.puts.proofs.Over.{set-over, over-over, put-buffer}
+use Rattle.laws.specs.Over.{over}
+use Rattle.puts.proofs.Placed.{put-buffer}
+use Rattle.laws.proofs.Over.{set-over, over-over}
 use Rattle.puts.proofs.Puts.{Copied, copied-end}
 use Rattle.reader.specs.Lines.{wordsOf}
 use Rattle.reader.specs.Inner.{RuleRoom}

@@ -16,16 +16,17 @@ use types.Run.{OneOf}
 use denote.Enum as enum
 use borrow.Author.Tests.{eq-eqb, ne-eqb, lt-ltb, le-ltb, le-leb, lt-leb, not-true, not-false}
 use Rattle.items.specs.Names.{nameRoom}
-use Rattle.items.specs.Table.{mostItems}
+use Rattle.refusals.specs.Sizes.{mostItems}
 use Rattle.items.specs.Lookup.{findIn}
 use Rattle.items.specs.declared.Found.{Found}
 use Rattle.items.proofs.Found as found
 use Rattle.rules.specs.declared.Rule.{Rule}
-use Rattle.accepts.specs.Accepted.{mostRules, mostLeft}
+use Rattle.refusals.specs.Sizes.{mostRules, mostLeft}
 use Rattle.keys.specs.Keys.{keyNumber, nextAllowed}
 use Rattle.keys.specs.declared.Key.{Key}
-use Rattle.puts.specs.Writing.{over, Put}
-use Rattle.puts.proofs.Over.{put-buffer}
+use Rattle.puts.specs.Writing.{Put}
+use Rattle.laws.specs.Over.{over}
+use Rattle.puts.proofs.Placed.{put-buffer}
 use Rattle.lines.specs.Lines.{lineAt, lineLen}
 use Rattle.lines.specs.declared.Line.{Line}
 use Rattle.lines.specs.declared.ReadLine.{ReadLine}
@@ -36,7 +37,7 @@ use Rattle.reader.specs.declared.line.Counts.{Counts}
 use Rattle.reader.specs.declared.line.Stepped.{Stepped}
 use Rattle.reader.specs.Names.{everyItem, numbersOf, rising}
 use Rattle.reader.specs.Lines.{State, Turn, counted, isAbsent, itemStep, ruleKind, wordsOf, leftPlaces, rightItemAt, allFound, ruleStep, endStep, keyStep, lineStep, step}
-use Rattle.refusals.specs.Numbers.{mostText}
+use Rattle.refusals.specs.Sizes.{mostText}
 use Rattle.reader.specs.Inner.{stateOf, turnOf, Ready, LineReady, ItemReady, RuleReady, refusedAt, ItemStepped, EndStepped, LookReady, LooksUp}
 use Rattle.reader.proofs.LookUps.{not-item}
 

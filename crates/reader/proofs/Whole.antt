@@ -12,12 +12,12 @@ use lib.Seq.{drop-drop}
 use mir.Syntax.{w64}
 use mir.Val.{Fits}
 use borrow.Author.Tests.{ltb-true}
-use Rattle.classes.proofs.Bools.{and-left}
+use Rattle.laws.proofs.Bools.{and-left}
 use Rattle.items.specs.Names.{nameRoom}
-use Rattle.items.specs.Table.{mostItems}
+use Rattle.refusals.specs.Sizes.{mostItems}
 use Rattle.items.specs.Lookup.{findIn}
 use Rattle.rules.specs.Table.{ruleWords}
-use Rattle.accepts.specs.Accepted.{mostRules, mostLeft}
+use Rattle.refusals.specs.Sizes.{mostRules, mostLeft}
 use Rattle.keys.specs.Keys.{keyNumber, nextAllowed}
 use Rattle.keys.specs.declared.Key.{Key}
 use Rattle.lines.specs.Lines.{lineAt, lineLen}

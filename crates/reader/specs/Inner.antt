@@ -6,11 +6,11 @@ use mathlib.Core.List.{List}
 use Prim.Native.Nat.{ℕ, _*_, _≤_, _<_}
 use lib.ListN.{length, drop}
 use Rattle.items.specs.Names.{nameRoom}
-use Rattle.items.specs.Table.{mostItems}
+use Rattle.refusals.specs.Sizes.{mostItems}
 use Rattle.rules.specs.Table.{ruleWords}
-use Rattle.accepts.specs.Accepted.{mostRules, mostLeft}
+use Rattle.refusals.specs.Sizes.{mostRules, mostLeft}
 use Rattle.keys.specs.declared.Key.{Key}
-use Rattle.puts.specs.Writing.{over}
+use Rattle.laws.specs.Over.{over}
 use Rattle.lines.specs.Lines.{lineAt}
 use Rattle.lines.specs.declared.Line.{Line}
 use Rattle.lines.specs.declared.ReadLine.{ReadLine}
@@ -20,7 +20,7 @@ use Rattle.reader.specs.declared.line.Counts.{Counts}
 use Rattle.reader.specs.declared.line.Stepped.{Stepped}
 use Rattle.reader.specs.Names.{everyItem, numbersOf}
 use Rattle.reader.specs.Lines.{State, Result, Turn, on, stop, emptyNames, emptyWords, itemStep, endStep}
-use Rattle.refusals.specs.Numbers.{mostText}
+use Rattle.refusals.specs.Sizes.{mostText}
 
 abbrev pub stateOf : Counts → List ℕ → List ℕ → State
 stateOf c names words = record { counts = c; names = names; words = words }

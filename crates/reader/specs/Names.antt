@@ -5,8 +5,8 @@ use mathlib.Core.List.{List, [], _∷_}
 use Prim.Native.Nat.{ℕ, zero, suc, _+_, _-_}
 use lib.Dec.{ltb}
 use lib.ListN.{getD, take, drop}
-use Rattle.classes.specs.Every.{everyBelow}
-use Rattle.items.specs.Names.{nameByte}
+use Rattle.laws.specs.Every.{everyBelow}
+use Rattle.scans.specs.Bytes.{nameByte}
 use Rattle.items.specs.Lookup.{findIn}
 use Rattle.items.specs.declared.Found.{Found}
 use Rattle.scans.specs.Bytes.{runLen}

@@ -8,8 +8,9 @@ use lib.Dec.{ltb, leb}
 use lib.ListN.{length, take, drop}
 use Rattle.items.specs.Names.{nameRoom}
 use Rattle.rules.specs.Table.{ruleWords}
-use Rattle.puts.specs.Writing.{over}
-use Rattle.refusals.specs.Numbers.{faultNumber, mostText}
+use Rattle.laws.specs.Over.{over}
+use Rattle.refusals.specs.Numbers.{faultNumber}
+use Rattle.refusals.specs.Sizes.{mostText}
 use Rattle.refusals.specs.declared.Fault.{Fault}
 use Rattle.reader.specs.declared.ReadBook.{ReadBook}
 use Rattle.reader.specs.Lines.{State, start, Result, resultOf, Turn, on, stop, step}

@@ -4,7 +4,7 @@ use rules::WORDS;
 ghost use mathlib.Core.Path.{_≡_};
 ghost use Prim.Native.Nat.{_+_, _*_, _≤_, _<_};
 ghost use lib.ListN.{length};
-ghost use Rattle.puts.specs.Writing.{over};
+ghost use Rattle.laws.specs.Over.{over};
 ghost use Rattle.reader.specs.Lines.{wordsOf};
 ghost use Rattle.reader.specs.Inner.{RuleRoom};
 

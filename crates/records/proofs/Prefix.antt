@@ -10,7 +10,8 @@ use lib.Dec.{eqb, ltb}
 use lib.ListN.{length, take, drop, length-drop, length-append}
 use lib.Seq.{take-append-le, drop-append-le}
 use borrow.Author.Tests.{lt-leb, le-ltb, ltb-false}
-use Rattle.records.specs.Fields.{comma, quote, cr, lf, plainByte, longerBy, afterCr, behind}
+use Rattle.records.specs.Fields.{plainByte, longerBy, afterCr, behind}
+use Rattle.scans.specs.Ascii.{comma, quote, cr, lf}
 use Rattle.records.specs.Fields.{Where, start, plain, quoted, closed, scan, fieldAt}
 use Rattle.records.specs.Rows.{Row, line, ends, cut, broken, before, rowFrom, rowOf}
 use Rattle.records.specs.Rows.{whole, more, bad, judged, recordAt, mostBytes}

@@ -7,7 +7,8 @@ use Prim.Native.Nat.{ℕ, _+_, _≤_}
 use native.Mathlib.Omega.{arith}
 use lib.Dec.{eqb}
 use lib.ListN.{length}
-use Rattle.records.specs.Fields.{comma, quote, cr, lf, plainByte, longerBy, afterCr, behind}
+use Rattle.records.specs.Fields.{plainByte, longerBy, afterCr, behind}
+use Rattle.scans.specs.Ascii.{comma, quote, cr, lf}
 use Rattle.records.specs.Fields.{Where, start, plain, quoted, closed, scan, fieldAt}
 use Rattle.records.specs.declared.Field.{Field}
 

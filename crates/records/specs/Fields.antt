@@ -5,22 +5,10 @@ use mathlib.Core.Bool.{Bool, cond, not, _||_}
 use mathlib.Core.List.{List, [], _∷_}
 use Prim.Native.Nat.{ℕ, _+_}
 use lib.Dec.{eqb}
+use Rattle.scans.specs.Ascii.{comma, quote, cr, lf}
 use Rattle.records.specs.declared.Field.{Field}
 
--- The bytes that are not taken as they are: comma, quote, CR and LF.
-abbrev pub comma : ℕ
-comma = 44
-
-abbrev pub quote : ℕ
-quote = 34
-
-abbrev pub cr : ℕ
-cr = 13
-
-abbrev pub lf : ℕ
-lf = 10
-
--- "Bytes outside ASCII and controls are allowed in a field": a field without quotes holds any bytes but those four.
+-- "Bytes outside ASCII and controls are allowed in a field": a field without quotes holds any bytes but comma, quote, CR and LF.
 unfoldable pub plainByte : ℕ → Bool
 plainByte b = not (eqb b comma || eqb b quote || eqb b cr || eqb b lf)
 

@@ -4,7 +4,8 @@ use mathlib.Core.Path.{_≡_}
 use mathlib.Core.List.{List, _++_}
 use Prim.Native.Nat.{ℕ, _+_, _≤_, _<_}
 use lib.ListN.{length, getD, drop}
-use Rattle.records.specs.Fields.{quote, plain, quoted, scan, behind, longerBy}
+use Rattle.records.specs.Fields.{plain, quoted, scan, behind, longerBy}
+use Rattle.scans.specs.Ascii.{quote}
 use Rattle.records.specs.Rows.{Row, line, ends, cut, broken, rowOf}
 use Rattle.records.specs.declared.Field.{Field}
 

@@ -1,0 +1,2 @@
+-- Why an answer is known by what it says.
+pub mod Said

@@ -1,2 +1,5 @@
--- What the contracts of `refusals` cite: the number of each refusal, and the size of a text.
+-- What the contracts of `refusals` and of every crate whose answers may be refusals cite: the number of each fault, the sizes past which a text or a book is
+-- refused, and what an answer says.
 pub mod Numbers
+pub mod Sizes
+pub mod Said

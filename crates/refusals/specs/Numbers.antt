@@ -1,4 +1,4 @@
--- "Numbers of refusal": the number of each, as document 01's table has it, and the size that TOO_LONG speaks of.
+-- "Numbers of refusal": the number of each fault, as the tables of documents 01 and 02 have it.
 -- Assumes nothing.
 use Prim.Native.Nat.{ℕ}
 use Rattle.refusals.specs.declared.Fault.{Fault}
@@ -16,7 +16,5 @@ faultNumber Fault.NoLabelling = 9
 faultNumber Fault.BadTable = 10
 faultNumber Fault.NoRoom = 11
 faultNumber Fault.BadLabel = 12
-
--- "TOO_LONG | 0 | text read, or to be written, is over 32,768 bytes".
-abbrev pub mostText : ℕ
-mostText = 32768
+faultNumber Fault.CsvSyntax = 16
+faultNumber Fault.CsvHeader = 17

@@ -9,17 +9,19 @@ use Rattle.items.specs.Names.{nameRoom}
 use Rattle.items.specs.Table.{nameOf}
 use Rattle.items.proofs.Counted.{SameItems, items-counted}
 use Rattle.rules.specs.Record.{byKind}
-use Rattle.rules.specs.Table.{ruleWords, wordAt, recordAt}
+use Rattle.rules.specs.Table.{ruleWords, wordAt, ruleAt}
 use Rattle.rules.specs.declared.Rule.{Rule}
 use Rattle.accepts.specs.Accepted.{RuleAccepted, Standing}
 use Rattle.keys.specs.Keys.{keyText}
 use Rattle.keys.specs.declared.Key.{Key}
 use Rattle.tokens.specs.Tokens.{classText}
 use Rattle.writer.specs.Texts.{formLine, itemLine, leftPiece, leftText, rightText, ruleKey, ruleLine, endLine, bookText}
-use Rattle.writer.specs.Writing.{Tables}
-use Rattle.rulebook.specs.RoundTrip.{SameTables}
-use Rattle.rulebook.proofs.Buffers.{SameFront, take-same, take-room, front-items}
-use Rattle.rulebook.proofs.Entries.{same-names, record-same}
+use Rattle.accepts.specs.Tables.{Tables}
+use Rattle.accepts.specs.Tables.{SameTables}
+use Rattle.laws.proofs.Buffers.{SameFront, take-same, take-room}
+use Rattle.items.proofs.Counted.{front-items}
+use Rattle.rules.proofs.Words.{rule-by-words}
+use Rattle.items.proofs.Entries.{same-names}
 use Rattle.rulebook.proofs.Pieces.{pieces-same}
 
 -- What stands at the end of a rule's line, by its kind: only a follow has a name there.
@@ -35,11 +37,11 @@ module _ {t w t′ w′ : List ℕ} {n m : ℕ} (s : SameTables n m t w t′ w�
   words : SameFront (m * ruleWords) w w′
   words = take-same (s .rules)
 
-  pub rule-same : (r : ℕ) → r < m → recordAt w′ r ≡ recordAt w r
+  pub rule-same : (r : ℕ) → r < m → ruleAt w′ r ≡ ruleAt w r
   unfolding wordAt
-  rule-same r h = record-same w′ w r (λ k l. sym (words .same (r * 13 + k) (omega arith)))
+  rule-same r h = rule-by-words w′ w r (λ k l. sym (words .same (r * 13 + k) (omega arith)))
 
-  rule-stands : (r : ℕ) → r < m → Standing (recordAt w′) m n r
+  rule-stands : (r : ℕ) → r < m → Standing (ruleAt w′) m n r
   rule-stands r h =
       let stands = a .rules .accepted .each r h in
       record {
@@ -80,7 +82,7 @@ module _ {t w t′ w′ : List ℕ} {n m : ℕ} (s : SameTables n m t w t′ w�
       ap₂ (λ (y z : List ℕ). formLine ++ y ++ z ++ endLine (1 + n + m))
       (pieces-same (itemLine t′) (itemLine t) 0 n
       (λ i h. let inside : i < n = omega arith in ap (λ (y : List ℕ). keyText Key.Item ++ y ++ 10 ∷ []) (name-same i inside)))
-      (pieces-same (λ r. ruleLine t′ (recordAt w′ r)) (λ r. ruleLine t (recordAt w r)) 0 m
+      (pieces-same (λ r. ruleLine t′ (ruleAt w′ r)) (λ r. ruleLine t (ruleAt w r)) 0 m
       (λ r h.
       let inside : r < m = omega arith in
-      ap (ruleLine t′) (rule-same r inside) ∙ line-same (recordAt w r) (a .rules .accepted .each r inside .accepted)))
+      ap (ruleLine t′) (rule-same r inside) ∙ line-same (ruleAt w r) (a .rules .accepted .each r inside .accepted)))

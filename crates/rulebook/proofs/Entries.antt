@@ -11,59 +11,23 @@ use native.Mathlib.Omega.{arith}
 use borrow.Author.Count.{below-more}
 use lib.ListN.{length, getD, replicate, List·getD-eq-default}
 use lib.Seq.{ext-getD}
-use Rattle.items.specs.Names.{nameRoom, nameByte, isName}
-use Rattle.items.specs.Table.{mostItems, entryByte, nameLen, nameOf, NameAt, NewAt, ItemsOk}
+use Rattle.items.specs.Names.{nameRoom, isName}
+use Rattle.scans.specs.Bytes.{nameByte}
+use Rattle.items.specs.Table.{entryByte, nameLen, nameOf, NameAt, NewAt, ItemsOk}
+use Rattle.refusals.specs.Sizes.{mostItems}
 use Rattle.items.specs.Lookup.{findIn}
 use Rattle.items.specs.declared.Found.{Found}
 use Rattle.items.proofs.Names.{name-spelled, byte-not-zero}
 use Rattle.items.proofs.Table.{nameOf-length, nameOf-at, nameLen-is}
 use Rattle.items.proofs.Lookup.{HasName, find-lowest, find-absent, name-is-name, own-name}
 use Rattle.items.proofs.Counted.{SameItems, items-counted}
-use Rattle.rules.specs.Table.{ruleWords, wordAt, recordAt}
+use Rattle.rules.specs.Table.{ruleWords, wordAt, ruleAt}
 use Rattle.rules.specs.declared.Rule.{Rule}
-use Rattle.accepts.specs.Accepted.{mostLeft}
-use Rattle.puts.specs.Writing.{over}
-use Rattle.puts.proofs.Over.{over-length}
+use Rattle.refusals.specs.Sizes.{mostLeft}
+use Rattle.laws.specs.Over.{over}
+use Rattle.laws.proofs.Over.{over-length}
 use Rattle.reader.specs.Lines.{leftPlaces, wordsOf}
-use Rattle.rulebook.proofs.Buffers.{over-before, over-inside, over-behind, zeros-at}
-
--- An entry that has a name is that name.
-module _ (t : List ℕ) (i : ℕ) (name : List ℕ) (e : isName name ≡ true) (h : HasName t i name) where
-  entry-zero : (k : ℕ) → length name ≤ k → k < nameRoom → entryByte t i k ≡ 0
-  entry-zero k m l = h .bytes k l ∙ List·getD-eq-default name 0 m
-
-  entry-byte : (k : ℕ) → k < length name → nameByte (entryByte t i k) ≡ true
-  entry-byte k l = rw (h .bytes k (omega (arith, name-spelled name e .most))) (name-spelled name e .bytes k l)
-
-  pub has-name-at : NameAt t i
-  has-name-at = record {
-    len = length name;
-    least = name-spelled name e .least;
-    most = name-spelled name e .most;
-    bytes = entry-byte;
-    rest = record { zeros = entry-zero };
-  }
-
-  pub has-name-of : nameOf t i ≡ name
-  has-name-of =
-      ext-getD 0 (nameOf t i) name (nameOf-length t i ∙ sym long)
-      (λ k l.
-      let inside : k < nameLen t i = omega (arith, nameOf-length t i) in
-      nameOf-at t i k inside ∙ h .bytes k (omega (arith, long, name-spelled name e .most)))
-    where
-      long : length name ≡ nameLen t i
-      long =
-          nameLen-is t i (length name) (name-spelled name e .most) (λ k l. byte-not-zero (entry-byte k l))
-          (λ l. entry-zero (length name) (omega arith) l)
-
--- The item that is found has those bytes.
-pub found-bytes : (t : List ℕ) (n : ℕ) (name : List ℕ) (i : ℕ) → findIn t n name ≡ Found.At i → nameOf t i ≡ name
-found-bytes t n name i e = let f = find-lowest t n name i e in has-name-of t i name (f .spelled) (f .here)
-
--- Tables that are equal up to n have the same names.
-pub same-names : {n : ℕ} {t u : List ℕ} → SameItems n t u → ItemsOk t n → (i : ℕ) → i < n → nameOf u i ≡ nameOf t i
-same-names {n} {t} {u} s o i l =
-    has-name-of u i (nameOf t i) (name-is-name o i l) (record { bytes = λ k g. sym (s .bytes i k l g) ∙ own-name o i l .bytes k g })
+use Rattle.laws.proofs.Buffers.{over-before, over-inside, over-behind, zeros-at}
 
 -- Every byte behind n items is zero.
 pub record Spare (t : List ℕ) (n : ℕ) : Type 0 where
@@ -142,26 +106,6 @@ eight l e = ext-getD 0 l _ e (λ i h. go i (omega (arith, h)))
     go (suc (suc (suc (suc (suc (suc (suc zero))))))) h = refl
     go (suc (suc (suc (suc (suc (suc (suc (suc i)))))))) h = absurd (omega arith)
 
--- Rules of the same thirteen words are the same.
-pub record-same : (w u : List ℕ) (r : ℕ) → ((k : ℕ) → k < ruleWords → wordAt w r k ≡ wordAt u r k) → recordAt w r ≡ recordAt u r
-unfolding recordAt
-record-same w u r h =
-    rw (
-      h 0 (omega arith),
-      h 1 (omega arith),
-      h 2 (omega arith),
-      h 3 (omega arith),
-      h 4 (omega arith),
-      h 5 (omega arith),
-      h 6 (omega arith),
-      h 7 (omega arith),
-      h 8 (omega arith),
-      h 9 (omega arith),
-      h 10 (omega arith),
-      h 11 (omega arith),
-      h 12 (omega arith),
-    )
-
 -- One more rule: its words are put behind r rules.
 module _ (w : List ℕ) (r : ℕ) (x : Rule) (room : r * ruleWords + ruleWords ≤ length w) where
   abbrev pub ruled : List ℕ
@@ -178,8 +122,8 @@ module _ (w : List ℕ) (r : ℕ) (x : Rule) (room : r * ruleWords + ruleWords �
   unfolding wordAt
   word-before q h k l = over-before w (r * ruleWords) (wordsOf x) room (q * 13 + k) (omega arith)
 
-  pub ruled-here : length (x .left) ≡ mostLeft → recordAt ruled r ≡ x
-  unfolding recordAt
+  pub ruled-here : length (x .left) ≡ mostLeft → ruleAt ruled r ≡ x
+  unfolding ruleAt
   ruled-here e =
       rw (
         word 0 (omega arith),
@@ -198,8 +142,8 @@ module _ (w : List ℕ) (r : ℕ) (x : Rule) (room : r * ruleWords + ruleWords �
         ← eight (x .left) e,
       )
 
-  pub ruled-before : (q : ℕ) → q < r → recordAt ruled q ≡ recordAt w q
-  ruled-before q h = record-same ruled w q (word-before q h)
+  pub ruled-before : (q : ℕ) → q < r → ruleAt ruled q ≡ ruleAt w q
+  ruled-before q h = rule-by-words ruled w q (word-before q h)
 
 -- The left places of a rule hold its items, and zeros behind them.
 module _ (items : List ℕ) (few : length items ≤ mostLeft) where

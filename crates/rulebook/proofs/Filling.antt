@@ -8,14 +8,16 @@ use native.Mathlib.Decide.{decLt}
 use native.Mathlib.Omega.{arith}
 use lib.ListN.{length, getD, replicate, length-replicate}
 use Rattle.items.specs.Names.{nameRoom}
-use Rattle.items.specs.Table.{mostItems, entryByte, nameOf, ItemsOk}
+use Rattle.items.specs.Table.{entryByte, nameOf, ItemsOk}
+use Rattle.refusals.specs.Sizes.{mostItems}
 use Rattle.items.specs.Lookup.{findIn}
 use Rattle.items.specs.declared.Found.{Found}
 use Rattle.items.proofs.Names.{name-spelled}
 use Rattle.items.proofs.Lookup.{HasName, find-is, name-is-name, own-name, found-name}
 use Rattle.items.proofs.Counted.{SameItems, find-counted}
-use Rattle.puts.specs.Writing.{over}
-use Rattle.rulebook.proofs.Buffers.{over-before, zeros-at, SameFront, front-items}
+use Rattle.laws.specs.Over.{over}
+use Rattle.laws.proofs.Buffers.{over-before, zeros-at, SameFront}
+use Rattle.items.proofs.Counted.{front-items}
 use Rattle.rulebook.proofs.Entries.{Spare, added-length, added-has, added-spare}
 
 -- The item table has its whole room, the first i items of t, and zeros behind them.

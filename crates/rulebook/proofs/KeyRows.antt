@@ -9,9 +9,9 @@ use native.Mathlib.Decide.{decLt}
 use native.Mathlib.Omega.{arith}
 use lib.Dec.{leb, eqb}
 use borrow.Author.Tests.{leb-true, le-leb, eqb-true, ne-eqb}
-use Rattle.classes.specs.Every.{everyBelow}
-use Rattle.classes.proofs.Bools.{true-not-false, and-left, and-right, beq-same}
-use Rattle.classes.proofs.Every.{every-at}
+use Rattle.laws.specs.Every.{everyBelow}
+use Rattle.laws.proofs.Bools.{true-not-false, and-left, and-right, beq-same}
+use Rattle.laws.proofs.Every.{every-at}
 use Rattle.rules.specs.Record.{byKind}
 use Rattle.keys.specs.Keys.{keyNumber, nextAllowed}
 use Rattle.keys.specs.declared.Key.{Key}

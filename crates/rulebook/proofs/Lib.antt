@@ -1,7 +1,6 @@
 -- Why reading and writing undo each other. Reading a line: what it says, and what it does. Reading and then writing: what is read passes the table
 -- tests, and its text is the text that was read. Writing and then reading: a written line reads back, and so does the whole text. Last the
 -- promises of the two routines, put together.
-pub mod Buffers
 pub mod KeyRows
 pub mod Pieces
 pub mod LineFacts

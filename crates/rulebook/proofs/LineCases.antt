@@ -8,11 +8,11 @@ use Prim.Native.Nat.{ℕ, zero, suc, _+_, _≤_, _<_}
 use lib.Dec.{ltb, leb, eqb}
 use lib.ListN.{length, drop}
 use borrow.Author.Tests.{ltb-true, leb-true, eqb-true}
-use Rattle.classes.proofs.Bools.{true-not-false, and-left, and-right}
-use Rattle.items.specs.Table.{mostItems}
+use Rattle.laws.proofs.Bools.{true-not-false, and-left, and-right}
+use Rattle.refusals.specs.Sizes.{mostItems}
 use Rattle.items.specs.Lookup.{findIn}
 use Rattle.items.specs.declared.Found.{Found}
-use Rattle.accepts.specs.Accepted.{mostRules, mostLeft}
+use Rattle.refusals.specs.Sizes.{mostRules, mostLeft}
 use Rattle.keys.specs.Keys.{keyNumber, nextAllowed}
 use Rattle.keys.specs.declared.Key.{Key}
 use Rattle.lines.specs.Lines.{lineAt, lineLen}

@@ -12,7 +12,8 @@ use lib.ListN.{take, drop}
 use lib.Seq.{take-suc, take-add}
 use borrow.Author.Tests.{eqb-true}
 use Rattle.classes.specs.Class.{lowest}
-use Rattle.items.specs.Names.{nameRoom, nameByte}
+use Rattle.items.specs.Names.{nameRoom}
+use Rattle.scans.specs.Bytes.{nameByte}
 use Rattle.scans.specs.Bytes.{byteAt, runLen}
 use Rattle.scans.proofs.Places.{byte-in, byte-inside}
 use Rattle.keys.specs.Keys.{keyText, keyAt}

@@ -10,8 +10,8 @@ use native.Mathlib.Omega.{arith}
 use lib.ListN.{getD, take, drop}
 use lib.Seq.{take-add, drop-drop}
 use borrow.Author.Tests.{lt-ltb, le-ltb}
-use Rattle.classes.proofs.Bools.{and-left, and-right}
-use Rattle.items.specs.Names.{nameByte}
+use Rattle.laws.proofs.Bools.{and-left, and-right}
+use Rattle.scans.specs.Bytes.{nameByte}
 use Rattle.items.specs.Table.{nameOf}
 use Rattle.items.specs.Lookup.{findIn}
 use Rattle.rules.specs.Record.{leftItem}
@@ -30,7 +30,7 @@ use Rattle.reader.specs.Lines.{State, itemName, ruleKind, ruleOf}
 use Rattle.writer.specs.Texts.{pieces, formLine, endLine, leftPiece, leftText, rightText, ruleKey, ruleLine}
 use Rattle.rulebook.proofs.LineFacts.{LeftNames, name-run, take-byte, line-text}
 use Rattle.rulebook.proofs.LineCases.{FormRead, ItemRead, RuleRead, EndRead}
-use Rattle.rulebook.proofs.Entries.{found-bytes}
+use Rattle.items.proofs.Entries.{found-bytes}
 use Rattle.rulebook.proofs.Numbers.{found-item, left-item, right-name}
 use Rattle.rulebook.proofs.Pieces.{pieces-one, pieces-first}
 

@@ -13,7 +13,8 @@ use lib.Seq.{drop-at, drop-drop}
 use borrow.Author.Tests.{lt-ltb, le-ltb}
 use Rattle.classes.specs.Class.{lowest, IsClass}
 use Rattle.classes.specs.declared.Class.{Class}
-use Rattle.items.specs.Names.{nameByte, isName}
+use Rattle.items.specs.Names.{isName}
+use Rattle.scans.specs.Bytes.{nameByte}
 use Rattle.rules.specs.Record.{byKind}
 use Rattle.scans.specs.Bytes.{byteAt, decimalByte, hexByte}
 use Rattle.scans.proofs.Runs.{run-no}

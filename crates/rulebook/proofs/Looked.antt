@@ -12,14 +12,16 @@ use lib.Dec.{ltb}
 use lib.ListN.{length, getD, List·getD-eq-default}
 use lib.Seq.{take-at, drop-at, drop-drop}
 use borrow.Author.Tests.{lt-ltb}
-use Rattle.classes.proofs.Every.{every-all}
-use Rattle.items.specs.Names.{nameByte, isName}
+use Rattle.laws.proofs.Every.{every-all}
+use Rattle.items.specs.Names.{isName}
+use Rattle.scans.specs.Bytes.{nameByte}
 use Rattle.items.specs.Lookup.{findIn}
 use Rattle.items.specs.declared.Found.{Found}
 use Rattle.items.proofs.Names.{name-spelled}
 use Rattle.rules.specs.Record.{byKind, leftItem}
 use Rattle.rules.specs.declared.Rule.{Rule}
-use Rattle.accepts.specs.Accepted.{mostLeft, LeftAccepted}
+use Rattle.accepts.specs.Accepted.{LeftAccepted}
+use Rattle.refusals.specs.Sizes.{mostLeft}
 use Rattle.scans.specs.Bytes.{runLen}
 use Rattle.reader.specs.Names.{firstName, restNames, everyItem, numbersOf, rising}
 use Rattle.reader.specs.Lines.{leftPlaces, rightItemAt}

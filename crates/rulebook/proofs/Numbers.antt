@@ -10,8 +10,8 @@ use native.Mathlib.Omega.{arith}
 use lib.Dec.{ltb}
 use lib.ListN.{length, getD, take, drop, List·getD-eq-default}
 use borrow.Author.Tests.{ltb-true}
-use Rattle.classes.proofs.Bools.{true-not-false, and-left, and-right}
-use Rattle.classes.proofs.Every.{every-at}
+use Rattle.laws.proofs.Bools.{true-not-false, and-left, and-right}
+use Rattle.laws.proofs.Every.{every-at}
 use Rattle.items.specs.Lookup.{findIn}
 use Rattle.items.specs.declared.Found.{Found}
 use Rattle.items.proofs.Lookup.{find-lowest}

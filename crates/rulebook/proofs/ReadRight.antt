@@ -10,18 +10,19 @@ use native.Mathlib.Omega.{arith}
 use borrow.Author.Count.{below-more}
 use lib.ListN.{length, drop, length-replicate}
 use Rattle.items.specs.Names.{nameRoom, isName}
-use Rattle.items.specs.Table.{mostItems}
-use Rattle.rules.specs.Table.{ruleWords, recordAt}
+use Rattle.refusals.specs.Sizes.{mostItems}
+use Rattle.rules.specs.Table.{ruleWords, ruleAt}
 use Rattle.rules.specs.declared.Rule.{Rule}
-use Rattle.accepts.specs.Accepted.{mostRules, Standing, TableAccepted}
+use Rattle.accepts.specs.Accepted.{Standing, TableAccepted}
+use Rattle.refusals.specs.Sizes.{mostRules}
 use Rattle.tokens.proofs.Tokens.{name-is-name}
 use Rattle.lines.specs.declared.Line.{Line}
 use Rattle.reader.specs.declared.ReadBook.{ReadBook}
 use Rattle.reader.specs.Lines.{State, start, Result, itemName, withItem, ruleOf, withRule}
 use Rattle.reader.specs.Reading.{readText}
-use Rattle.writer.specs.Writing.{Tables}
+use Rattle.accepts.specs.Tables.{Tables}
 use Rattle.rulebook.proofs.LineCases.{FormRead, ItemRead, RuleRead, Cases, formNext, read-says}
-use Rattle.rulebook.proofs.Buffers.{zeros-at}
+use Rattle.laws.proofs.Buffers.{zeros-at}
 use Rattle.rulebook.proofs.Entries.{Spare, added-length, added-spare, added-ok, ruled-length, ruled-here, ruled-before, places-length}
 use Rattle.rulebook.proofs.Numbers.{left-few, rule-accepted}
 
@@ -32,7 +33,7 @@ pub record Right (st : State) : Type 0 where
   pub words-room : length (st .words) ≡ mostRules * ruleWords
   pub tables : Tables (st .names) (st .counts .items) (st .words) (st .counts .rules)
   pub spare : Spare (st .names) (st .counts .items)
-  pub kinds : (r : ℕ) → r < st .counts .rules → 3 + recordAt (st .words) r .kind ≤ st .counts .after
+  pub kinds : (r : ℕ) → r < st .counts .rules → 3 + ruleAt (st .words) r .kind ≤ st .counts .after
 
 -- While an item may come, there is no rule.
 pub no-rules : {st : State} → Right st → st .counts .after ≤ 2 → st .counts .rules ≡ 0
@@ -101,35 +102,35 @@ module _ (st : State) (l : List ℕ) (right : Right st) (x : Line) where
     pub rule-room : st .counts .rules * ruleWords + ruleWords ≤ length (st .words)
     rule-room = omega (arith, right .words-room, h .few)
 
-    pub rule-here : recordAt (withRule st l x .words) (st .counts .rules) ≡ rule
+    pub rule-here : ruleAt (withRule st l x .words) (st .counts .rules) ≡ rule
     rule-here = ruled-here (st .words) (st .counts .rules) rule rule-room (places-length _ (left-few st l x h))
 
-    pub rule-before : (r : ℕ) → r < st .counts .rules → recordAt (withRule st l x .words) r ≡ recordAt (st .words) r
+    pub rule-before : (r : ℕ) → r < st .counts .rules → ruleAt (withRule st l x .words) r ≡ ruleAt (st .words) r
     rule-before = ruled-before (st .words) (st .counts .rules) rule rule-room
 
     row : st .counts .after ≤ 3 + rule .kind
     row = omega (arith, h .row .rise)
 
-    next-kind : (r : ℕ) → r < st .counts .rules → recordAt (st .words) r .kind ≤ rule .kind
+    next-kind : (r : ℕ) → r < st .counts .rules → ruleAt (st .words) r .kind ≤ rule .kind
     next-kind r s = omega (arith, right .kinds r s, row)
 
     before-stands : (r : ℕ) → r < st .counts .rules
-        → Standing (recordAt (withRule st l x .words)) (st .counts .rules + 1) (st .counts .items) r
+        → Standing (ruleAt (withRule st l x .words)) (st .counts .rules + 1) (st .counts .items) r
     before-stands r s = record {
       accepted = rw (rule-before r s) (right .tables .rules .accepted .each r s .accepted);
       order = λ g. rw (rule-before r s) (next (decLt (suc r) (st .counts .rules)));
     }
       where
-        next : Dec (suc r < st .counts .rules) → recordAt (st .words) r .kind ≤ recordAt (withRule st l x .words) (suc r) .kind
+        next : Dec (suc r < st .counts .rules) → ruleAt (st .words) r .kind ≤ ruleAt (withRule st l x .words) (suc r) .kind
         next (yes g) = rw (rule-before (suc r) g) (right .tables .rules .accepted .each r s .order g)
         next (no g) =
             let last : suc r ≡ st .counts .rules = omega arith in
             rw (last, rule-here) (next-kind r s)
 
-    here-stands : Standing (recordAt (withRule st l x .words)) (st .counts .rules + 1) (st .counts .items) (st .counts .rules)
+    here-stands : Standing (ruleAt (withRule st l x .words)) (st .counts .rules + 1) (st .counts .items) (st .counts .rules)
     here-stands = record { accepted = rw rule-here (rule-accepted st l x h); order = λ g. absurd (omega arith) }
 
-    kind-before : (r : ℕ) → r < st .counts .rules → 3 + recordAt (withRule st l x .words) r .kind ≤ 3 + rule .kind
+    kind-before : (r : ℕ) → r < st .counts .rules → 3 + ruleAt (withRule st l x .words) r .kind ≤ 3 + rule .kind
     kind-before r s = rw (rule-before r s) (omega (arith, next-kind r s))
 
     pub right-rule : Right (withRule st l x)
@@ -151,9 +152,9 @@ module _ (st : State) (l : List ℕ) (right : Right st) (x : Line) where
       kinds = λ r s. rw (h .number) (omega (arith, kinds r s));
     }
       where
-        kinds : (r : ℕ) → r < st .counts .rules + 1 → 3 + recordAt (withRule st l x .words) r .kind ≤ 3 + rule .kind
+        kinds : (r : ℕ) → r < st .counts .rules + 1 → 3 + ruleAt (withRule st l x .words) r .kind ≤ 3 + rule .kind
         kinds =
-            below-more (λ r. 3 + recordAt (withRule st l x .words) r .kind ≤ 3 + rule .kind) (st .counts .rules) kind-before (rw rule-here (omega arith))
+            below-more (λ r. 3 + ruleAt (withRule st l x .words) r .kind ≤ 3 + rule .kind) (st .counts .rules) kind-before (rw rule-here (omega arith))
 
 -- An answer with its tables: a book's tables are right.
 abbrev pub AnswerRight : List ℕ → List ℕ → ReadBook → Type 0

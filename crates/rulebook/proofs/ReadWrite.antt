@@ -9,7 +9,7 @@ use native.Mathlib.Omega.{arith}
 use lib.ListN.{length, take, drop, take-append-drop}
 use lib.Seq.{take-all}
 use Rattle.items.specs.Names.{nameRoom, isName}
-use Rattle.rules.specs.Table.{recordAt}
+use Rattle.rules.specs.Table.{ruleAt}
 use Rattle.keys.specs.Keys.{keyText}
 use Rattle.keys.specs.declared.Key.{Key}
 use Rattle.lines.specs.Lines.{lineLen}
@@ -19,7 +19,8 @@ use Rattle.reader.specs.Lines.{State, start, Result, itemName, withItem, ruleOf
 use Rattle.reader.specs.Reading.{readText}
 use Rattle.writer.specs.Texts.{pieces, formLine, endLine, itemLine, ruleLine, bookText}
 use Rattle.rulebook.proofs.LineCases.{FormRead, ItemRead, RuleRead, EndRead, Cases, formNext, read-says}
-use Rattle.rulebook.proofs.Entries.{has-name-of, same-names, added-has, added-same}
+use Rattle.rulebook.proofs.Entries.{added-has, added-same}
+use Rattle.items.proofs.Entries.{has-name-of, same-names}
 use Rattle.rulebook.proofs.Pieces.{pieces-zero, pieces-grown}
 use Rattle.rulebook.proofs.LineTexts.{form-text, item-text, rule-text, end-text}
 use Rattle.rulebook.proofs.ReadRight.{Right, no-rules, right-start, right-form, item-name, item-room, right-item, rule-here, rule-before, right-rule}
@@ -29,7 +30,7 @@ abbrev itemTexts : State → List ℕ
 itemTexts st = pieces (itemLine (st .names)) 0 (st .counts .items)
 
 abbrev ruleTexts : State → List ℕ
-ruleTexts st = pieces (λ r. ruleLine (st .names) (recordAt (st .words) r)) 0 (st .counts .rules)
+ruleTexts st = pieces (λ r. ruleLine (st .names) (ruleAt (st .words) r)) 0 (st .counts .rules)
 
 abbrev pub textSoFar : State → List ℕ
 textSoFar st = formLine ++ itemTexts st ++ ruleTexts st
@@ -75,7 +76,7 @@ module _ (st : State) (l : List ℕ) (right : Right st) (x : Line) where
   module _ (h : RuleRead st l x) where
     rule-grown : ruleTexts (withRule st l x) ≡ ruleTexts st ++ ruleLine (st .names) (ruleOf st l x)
     rule-grown =
-        pieces-grown (λ r. ruleLine (st .names) (recordAt (st .words) r)) (λ r. ruleLine (st .names) (recordAt (withRule st l x .words) r)) (st .counts .rules) _
+        pieces-grown (λ r. ruleLine (st .names) (ruleAt (st .words) r)) (λ r. ruleLine (st .names) (ruleAt (withRule st l x .words) r)) (st .counts .rules) _
         (λ j s. ap (ruleLine (st .names)) (rule-before st l right x h j s))
         (ap (ruleLine (st .names)) (rule-here st l right x h))
 

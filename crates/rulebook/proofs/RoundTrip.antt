@@ -10,20 +10,22 @@ use lib.Dec.{ltb, leb}
 use lib.ListN.{length, take, drop}
 use lib.Seq.{length-take-le}
 use borrow.Author.Tests.{le-ltb, ltb-false, le-leb, leb-true}
-use Rattle.classes.proofs.Bools.{and-left, and-right}
+use Rattle.laws.proofs.Bools.{and-left, and-right}
 use Rattle.items.specs.Names.{nameRoom}
 use Rattle.rules.specs.Table.{ruleWords}
-use Rattle.puts.specs.Writing.{over}
+use Rattle.laws.specs.Over.{over}
 use Rattle.refusals.specs.declared.Fault.{Fault}
 use Rattle.reader.specs.declared.ReadBook.{ReadBook}
 use Rattle.reader.specs.Lines.{Result}
-use Rattle.refusals.specs.Numbers.{mostText}
+use Rattle.refusals.specs.Sizes.{mostText}
 use Rattle.reader.specs.Reading.{readText, fitted, readAnswer, ReadSays}
 use Rattle.writer.specs.declared.Written.{Written}
 use Rattle.writer.specs.Texts.{bookText}
-use Rattle.writer.specs.Writing.{Tables, WriteSays, bad-table, too-long, no-room, written}
-use Rattle.rulebook.specs.RoundTrip.{SameTables, Words, ReadBack, WrittenBack, RoomRefused}
-use Rattle.rulebook.proofs.Buffers.{front-over, rest-over}
+use Rattle.writer.specs.Writing.{WriteSays, bad-table, too-long, no-room, written}
+use Rattle.accepts.specs.Tables.{Tables}
+use Rattle.rulebook.specs.RoundTrip.{Words, ReadBack, WrittenBack, RoomRefused}
+use Rattle.accepts.specs.Tables.{SameTables}
+use Rattle.laws.proofs.Buffers.{front-over, rest-over}
 use Rattle.rulebook.proofs.ReadRight.{read-right}
 use Rattle.rulebook.proofs.ReadWrite.{read-write}
 use Rattle.rulebook.proofs.WriteRead.{write-read}

@@ -13,25 +13,27 @@ use borrow.Author.Tests.{lt-ltb, le-leb, eq-eqb}
 use Rattle.classes.specs.Class.{classOf, lowest}
 use Rattle.classes.specs.declared.Class.{Class}
 use Rattle.items.specs.Names.{isName}
-use Rattle.items.specs.Table.{mostItems, nameOf, ItemsOk}
+use Rattle.items.specs.Table.{nameOf, ItemsOk}
+use Rattle.refusals.specs.Sizes.{mostItems}
 use Rattle.items.specs.Lookup.{findIn}
 use Rattle.items.specs.declared.Found.{Found}
 use Rattle.items.proofs.Lookup.{name-is-name}
 use Rattle.rules.specs.Record.{leftItem}
-use Rattle.rules.specs.Table.{ruleWords, wordAt, recordAt}
+use Rattle.rules.specs.Table.{ruleWords, wordAt, ruleAt}
 use Rattle.rules.specs.declared.Rule.{Rule}
-use Rattle.accepts.specs.Accepted.{mostRules, mostLeft, RuleAccepted}
+use Rattle.accepts.specs.Accepted.{RuleAccepted}
+use Rattle.refusals.specs.Sizes.{mostRules, mostLeft}
 use Rattle.keys.specs.Keys.{keyText}
 use Rattle.keys.specs.declared.Key.{Key}
 use Rattle.tokens.specs.Tokens.{countText, classText}
-use Rattle.puts.proofs.Over.{over-length}
+use Rattle.laws.proofs.Over.{over-length}
 use Rattle.lines.specs.Lines.{lineLen}
 use Rattle.lines.specs.declared.Line.{Line}
 use Rattle.reader.specs.declared.ReadBook.{ReadBook}
 use Rattle.reader.specs.Names.{everyItem}
 use Rattle.reader.specs.Lines.{State, resultOf, on, stop, itemName, withItem, itemStep, wordsOf, leftNumbers, rightFound, ruleOf, withRule, allFound, ruleStep, endStep}
 use Rattle.writer.specs.Texts.{pieces, itemLine, leftText, rightText, ruleKey, ruleLine}
-use Rattle.rulebook.proofs.Buffers.{SameFront, same-more}
+use Rattle.laws.proofs.Buffers.{SameFront, same-more}
 use Rattle.rulebook.proofs.KeyRows.{kind-key}
 use Rattle.rulebook.proofs.LineByLine.{LineRead}
 use Rattle.rulebook.proofs.LinesRead.{lineWith, unnamedValue, namedValue, LeftRead, signed, left-reads, valueOfKind, kind-reads}
@@ -194,11 +196,11 @@ module _ {t : List ℕ} {n : ℕ} (o : ItemsOk t n) (x : Rule) (a : RuleAccepted
       }
 
 -- The words of a table's rule are its thirteen words in the table.
-words-numbered : (w : List ℕ) (r : ℕ) → wordsOf (recordAt w r) ≡ numbered (λ k. getD w (r * ruleWords + k) 0) 0 ruleWords
-unfolding recordAt wordAt pieces
+words-numbered : (w : List ℕ) (r : ℕ) → wordsOf (ruleAt w r) ≡ numbered (λ k. getD w (r * ruleWords + k) 0) 0 ruleWords
+unfolding ruleAt wordAt pieces
 words-numbered w r = refl
 
-pub record-words : (w : List ℕ) (r k : ℕ) → k < ruleWords → getD (wordsOf (recordAt w r)) k 0 ≡ getD w (r * ruleWords + k) 0
+pub record-words : (w : List ℕ) (r k : ℕ) → k < ruleWords → getD (wordsOf (ruleAt w r)) k 0 ≡ getD w (r * ruleWords + k) 0
 record-words w r k h =
     ap (λ (l : List ℕ). getD l k 0) (words-numbered w r) ∙ numbered-at (λ j. getD w (r * ruleWords + j) 0) ruleWords 0 k h
     ∙ ap (λ (j : ℕ). getD w (r * ruleWords + j) 0) (zero-add k)

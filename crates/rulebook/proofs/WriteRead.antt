@@ -9,15 +9,15 @@ use native.Mathlib.Omega.{arith}
 use lib.ListN.{length, length-replicate}
 use Rattle.items.specs.Table.{nameOf}
 use Rattle.items.proofs.Lookup.{name-is-name}
-use Rattle.rules.specs.Table.{ruleWords, wordAt, recordAt}
-use Rattle.accepts.specs.Accepted.{mostRules}
+use Rattle.rules.specs.Table.{ruleWords, wordAt, ruleAt}
+use Rattle.refusals.specs.Sizes.{mostRules}
 use Rattle.reader.specs.declared.ReadBook.{ReadBook}
 use Rattle.reader.specs.Lines.{State, start, Result, resultOf}
 use Rattle.reader.specs.Reading.{readText}
 use Rattle.writer.specs.Texts.{pieces, formLine, itemLine, ruleLine, endLine, bookText}
-use Rattle.writer.specs.Writing.{Tables}
+use Rattle.accepts.specs.Tables.{Tables}
 use Rattle.rulebook.specs.RoundTrip.{Words, ReadBack}
-use Rattle.rulebook.proofs.Buffers.{same-take}
+use Rattle.laws.proofs.Buffers.{same-take}
 use Rattle.rulebook.proofs.KeyRows.{form-next, NextRow, row-next, KindKey, kind-key, kind-step, kind-next}
 use Rattle.rulebook.proofs.LineCases.{formNext}
 use Rattle.rulebook.proofs.LineByLine.{Reads, reads-line, reads-end}
@@ -33,10 +33,10 @@ Back t n w m r = ReadBack t n w m (r .answer) (r .names) (r .words)
 record MayCome (w : List ℕ) (m r after : ℕ) : Type 0 where
   some : 1 ≤ after
   most : after ≤ 5
-  rule : r < m → after ≤ 3 + recordAt w r .kind
+  rule : r < m → after ≤ 3 + ruleAt w r .kind
 
-marks-small : {w : List ℕ} → Words w → (r : ℕ) → recordAt w r .class .marks < 2 ^ 64
-unfolding recordAt wordAt
+marks-small : {w : List ℕ} → Words w → (r : ℕ) → ruleAt w r .class .marks < 2 ^ 64
+unfolding ruleAt wordAt
 marks-small u r = u .small (r * 13 + 12)
 
 module _ {t w : List ℕ} {n m : ℕ} (a : Tables t n w m) (u : Words w) where
@@ -59,7 +59,7 @@ module _ {t w : List ℕ} {n m : ℕ} (a : Tables t n w m) (u : Words w) where
       (back f))
 
   abbrev rulesFrom : ℕ → ℕ → List ℕ
-  rulesFrom r c = pieces (λ k. ruleLine t (recordAt w k)) r c
+  rulesFrom r c = pieces (λ k. ruleLine t (ruleAt w k)) r c
 
   rules-read : (c r : ℕ) → r + c ≡ m → {st : State} → Filled t w n r st → MayCome w m r (st .counts .after)
       → Reads (Back t n w m) st (rulesFrom r c ++ endLine (1 + n + m))
@@ -68,13 +68,13 @@ module _ {t w : List ℕ} {n m : ℕ} (a : Tables t n w m) (u : Words w) where
   rules-read (suc c) r e {st} f g =
       let stands = a .rules .accepted .each r (omega arith) in
       let rest = rulesFrom (suc r) c ++ endLine (1 + n + m) in
-      let kind : KindKey (recordAt w r .kind) = kind-key (recordAt w r .kind) (stands .accepted .kind) in
+      let kind : KindKey (ruleAt w r .kind) = kind-key (ruleAt w r .kind) (stands .accepted .kind) in
       let few : r < mostRules = omega (arith, a .rules .accepted .rules) in
-      rw (append-assoc (ruleLine t (recordAt w r)) (rulesFrom (suc r) c) (endLine (1 + n + m)))
-      (reads-line (rule-line (a .items) (recordAt w r) (stands .accepted) (marks-small u r)) rest
-      (kind-next (recordAt w r .kind) (stands .accepted .kind) (g .some) (g .rule (omega arith)))
-      (kind-step (recordAt w r .kind) st _ _ ∙ rule-step (a .items) (recordAt w r) (stands .accepted) rest f few)
-      (rules-read c (suc r) (omega arith) (rule-fills (a .items) (recordAt w r) (stands .accepted) rest f few (record-words w r))
+      rw (append-assoc (ruleLine t (ruleAt w r)) (rulesFrom (suc r) c) (endLine (1 + n + m)))
+      (reads-line (rule-line (a .items) (ruleAt w r) (stands .accepted) (marks-small u r)) rest
+      (kind-next (ruleAt w r .kind) (stands .accepted .kind) (g .some) (g .rule (omega arith)))
+      (kind-step (ruleAt w r .kind) st _ _ ∙ rule-step (a .items) (ruleAt w r) (stands .accepted) rest f few)
+      (rules-read c (suc r) (omega arith) (rule-fills (a .items) (ruleAt w r) (stands .accepted) rest f few (record-words w r))
       (record {
         some = omega arith;
         most = omega (arith, kind .number, stands .accepted .kind);
@@ -102,7 +102,7 @@ unfolding bookText
 write-read {t} {w} {n} {m} a u = whole .reads (length (bookText t n w m)) (le-refl _)
   where
     rest : List ℕ
-    rest = pieces (itemLine t) 0 n ++ (pieces (λ k. ruleLine t (recordAt w k)) 0 m ++ endLine (1 + n + m))
+    rest = pieces (itemLine t) 0 n ++ (pieces (λ k. ruleLine t (ruleAt w k)) 0 m ++ endLine (1 + n + m))
 
     filled : Filled t w 0 0 (formNext start)
     filled = record {
@@ -118,7 +118,7 @@ write-read {t} {w} {n} {m} a u = whole .reads (length (bookText t n w m)) (le-re
     whole =
         subst (Reads (Back t n w m) start)
         (sym
-        (append-assoc (formLine ++ pieces (itemLine t) 0 n) (pieces (λ k. ruleLine t (recordAt w k)) 0 m) (endLine (1 + n + m))
-        ∙ append-assoc formLine (pieces (itemLine t) 0 n) (pieces (λ k. ruleLine t (recordAt w k)) 0 m ++ endLine (1 + n + m))))
+        (append-assoc (formLine ++ pieces (itemLine t) 0 n) (pieces (λ k. ruleLine t (ruleAt w k)) 0 m) (endLine (1 + n + m))
+        ∙ append-assoc formLine (pieces (itemLine t) 0 n) (pieces (λ k. ruleLine t (ruleAt w k)) 0 m ++ endLine (1 + n + m))))
         (reads-line form-line rest form-next refl
         (items-read a u n 0 (zero-add n) filled (record { some = omega arith; rise = omega arith })))

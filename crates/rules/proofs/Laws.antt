@@ -1,34 +1,29 @@
--- Laws of the readers: what stands past the end of a list, and the join of left labels one name after the other.
+-- Laws of the readers: the words of a table, and the join of left labels one name after the other.
 -- Assumes nothing.
-use mathlib.Core.Path.{_≡_, refl, sym, ap, ap₂, _∙_}
+use mathlib.Core.Path.{_≡_, refl, sym, ap, _∙_}
 use mathlib.Core.List.{List}
 use Prim.Native.Nat.{ℕ, suc, _+_, _*_, _≤_, _<_, min}
 use native.Mathlib.Nat.{le-antisymm}
 use native.Mathlib.Numerals.{add-one}
 use native.Mathlib.Omega.{arith}
-use lib.ListN.{length, getD, List·getD-eq-default}
-use Rattle.classes.specs.Class.{classOf, joined, lowest}
+use lib.ListN.{length, getD}
+use Rattle.laws.proofs.Lists.{zero-past}
+use Rattle.classes.specs.Class.{joined, lowest}
 use Rattle.classes.specs.declared.Class.{Class}
-use Rattle.labelling.specs.Rules.{joinUpTo, joinOver}
-use Rattle.labelling.specs.Classes.{classes}
+use Rattle.meaning.specs.Rules.{joinUpTo, joinOver}
+use Rattle.meaning.specs.Classes.{classes}
 use Rattle.rules.specs.declared.Rule.{Rule}
-use Rattle.rules.specs.Record.{leftOf, leftItem, leftCount, labelsIn}
-use Rattle.rules.specs.Table.{wordAt}
+use Rattle.rules.specs.Record.{leftOf, leftItem, leftCount}
+use Rattle.labels.specs.Labels.{labelsIn}
+use Rattle.rules.specs.Table.{ruleWords, wordAt}
 
-pub zero-past : (t : List ℕ) (i : ℕ) → length t ≤ i → 0 ≡ getD t i 0
-zero-past t i h = sym (List·getD-eq-default t 0 h)
-
-pub word-past : (t : List ℕ) (r k : ℕ) → length t ≤ r * 13 + k → 0 ≡ wordAt t r k
+pub word-past : (t : List ℕ) (r k : ℕ) → length t ≤ r * ruleWords + k → 0 ≡ wordAt t r k
 unfolding wordAt
-word-past t r k h = zero-past t (r * 13 + k) h
+word-past t r k h = zero-past t (r * ruleWords + k) h
 
-pub word-there : (t : List ℕ) (r k : ℕ) → getD t (r * 13 + k) 0 ≡ wordAt t r k
+pub word-there : (t : List ℕ) (r k : ℕ) → getD t (r * ruleWords + k) 0 ≡ wordAt t r k
 unfolding wordAt
 word-there t r k = refl
-
--- a label made of its level and its marks
-pub label-made : (levels marks : List ℕ) (i l m : ℕ) (x : Class) → l ≡ getD levels i 0 → m ≡ getD marks i 0 → x ≡ classOf l m → x ≡ labelsIn levels marks i
-label-made levels marks i l m x p q e = e ∙ ap₂ classOf p q
 
 -- a is the join of the first k left labels.
 pub record JoinSoFar (x : Rule) (f : ℕ → Class) (k : ℕ) (a : Class) : Type 0 where

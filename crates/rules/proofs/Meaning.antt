@@ -3,7 +3,7 @@
 use mathlib.Core.Path.{_≡_, refl, ap}
 use Prim.Native.Nat.{ℕ, zero, suc, _≤_}
 use native.Mathlib.Omega.{arith}
-use Rattle.labelling.specs.Rules as meant
+use Rattle.meaning.specs.Rules as meant
 use Rattle.rules.specs.declared.Rule.{Rule}
 use Rattle.rules.specs.Record.{leftOf, leftItem, byKind, meaningOf}
 use Rattle.classes.specs.declared.Class.{Class}

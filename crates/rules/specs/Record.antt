@@ -1,11 +1,11 @@
--- One rule as a record, and the rule that it stands for; labels held in two lists.
+-- One rule as a record, the rule that it stands for, and the book of rules by number under its head.
 -- Assumes nothing.
-use mathlib.Core.List.{List}
 use Prim.Native.Nat.{ℕ, zero, suc, min}
 use lib.ListN.{getD}
-use Rattle.classes.specs.Class.{classOf}
 use Rattle.classes.specs.declared.Class.{Class}
-use Rattle.labelling.specs.Rules as meant
+use Rattle.refusals.specs.Sizes.{mostLeft}
+use Rattle.meaning.specs.Rules as meant
+use Rattle.rules.specs.declared.Head.{Head}
 use Rattle.rules.specs.declared.Rule.{Rule}
 
 -- The kinds of a rule by number: a cap, a floor, and a follow.
@@ -16,7 +16,7 @@ byKind (suc (suc k)) c f g = g
 
 -- 1 to 8 left names: what a record holds beyond the eighth is not looked at.
 abbrev pub leftCount : Rule → ℕ
-leftCount x = min (x .count) 8
+leftCount x = min (x .count) mostLeft
 
 abbrev pub leftItem : Rule → ℕ → ℕ
 leftItem x k = getD (x .left) k 0
@@ -28,6 +28,6 @@ leftOf x = record { count = leftCount x; item = leftItem x }
 unfoldable pub meaningOf : Rule → meant.Rule Class
 meaningOf x = byKind (x .kind) (meant.cap (leftItem x 0) (x .class)) (meant.floor (leftOf x) (x .class)) (meant.follow (leftOf x) (x .right))
 
--- The labels that a list of levels and a list of marks hold.
-abbrev pub labelsIn : List ℕ → List ℕ → ℕ → Class
-labelsIn levels marks i = classOf (getD levels i 0) (getD marks i 0)
+-- The book of rules by number, with as many items and rules as its head says.
+abbrev pub bookBy : Head → (ℕ → Rule) → meant.Book Class
+bookBy h at = record { items = h .items; rules = h .rules; rule = λ r. meaningOf (at r) }

@@ -4,14 +4,34 @@
 ghost use mathlib.Core.Path.{_≡_};
 ghost use Prim.Native.Nat.{_-_};
 ghost use lib.ListN.{length, drop};
-ghost use Rattle.scans.specs.Bytes.{byteAt, decimalByte, hexByte, kindOf, runLen};
+ghost use Rattle.scans.specs.Bytes.{byteAt, nameByte, decimalByte, hexByte, kindOf, runLen};
 
-// The kinds of bytes that runs are made of: a-z, 0-9 and hyphen; 0-9; 0-9 and a-f; any byte but LF.
+// The bytes that the crates above name.
+pub const LF: u8 = b'\n';
+
+pub const CR: u8 = b'\r';
+
+pub const QUOTE: u8 = b'"';
+
+pub const PLUS: u8 = b'+';
+
+pub const COMMA: u8 = b',';
+
+pub const SLASH: u8 = b'/';
+
+pub const DIGIT_0: u8 = b'0';
+
+pub const DIGIT_1: u8 = b'1';
+
+pub const DIGIT_9: u8 = b'9';
+
+pub const COLON: u8 = b':';
+
+// The kinds of bytes that runs are made of: a-z, 0-9 and hyphen; 0-9; 0-9 and a-f.
 pub enum Kind {
     Name,
     Decimal,
     Hex,
-    Line,
 }
 
 // The byte at a place, and 0 past the text's end.
@@ -32,6 +52,18 @@ fn left(s: &[u8], at: usize) -> usize
         return 0;
     }
     s.len() - at
+}
+
+// Whether a byte is one that names are made of: a-z, 0-9 and hyphen.
+pub fn is_name_byte(b: u8) -> bool
+    ensures { λ r. ⌜ r ≡ nameByte b ⌝ }
+{
+    match b {
+        b'a'..=b'z' => true,
+        b'0'..=b'9' => true,
+        b'-' => true,
+        _ => false,
+    }
 }
 
 // Whether a byte is a decimal digit.
@@ -60,10 +92,9 @@ fn is_of(kind: Kind, b: u8) -> bool
     ensures { λ r. ⌜ r ≡ kindOf kind b ⌝ }
 {
     match kind {
-        Kind::Name => items::is_name_byte(b),
+        Kind::Name => is_name_byte(b),
         Kind::Decimal => is_decimal(b),
         Kind::Hex => is_hex(b),
-        Kind::Line => b != b'\n',
     }
 }
 

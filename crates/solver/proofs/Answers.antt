@@ -7,14 +7,14 @@ use native.Mathlib.Omega.{arith}
 use lib.ListN.{length, getD, replicate, length-replicate, getD-replicate}
 use Rattle.classes.specs.Class.{classOf, IsClass, highest}
 use Rattle.classes.specs.Parts.{partCount, part, topOf}
-use Rattle.classes.specs.Tells.{Tells}
+use Rattle.laws.specs.Tells.{Tells}
 use Rattle.classes.specs.declared.Class.{Class}
 use Rattle.classes.proofs.Parts.{highest-parts}
-use Rattle.labelling.specs.Labelling.{Wanted}
-use Rattle.labelling.specs.Classes.{classes, classParts}
-use Rattle.labelling.proofs.Classes.{classLaws}
-use Rattle.labelling.proofs.Same.{wanted-same}
-use Rattle.labelling.proofs.Whole.{parts-wanted-below, refused-below}
+use Rattle.meaning.specs.Labelling.{Wanted}
+use Rattle.meaning.specs.Classes.{classes, classParts}
+use Rattle.meaning.proofs.Classes.{classLaws}
+use Rattle.meaning.proofs.Same.{wanted-same}
+use Rattle.meaning.proofs.Whole.{parts-wanted-below, refused-below}
 use Rattle.rules.specs.Table.{bookOf}
 use Rattle.accepts.specs.Accepted.{TableAccepted}
 use Rattle.accepts.proofs.Inside.{table-inside}

@@ -15,15 +15,15 @@ use Rattle.classes.specs.Bits.{bit}
 use Rattle.classes.specs.Parts.{partCount, part, topOf}
 use Rattle.classes.specs.declared.Class.{Class}
 use Rattle.classes.proofs.Bits.{bit-small, bit-of-zero}
-use Rattle.labelling.specs.Rules.{Book, Inside}
-use Rattle.labelling.specs.Values.{numbers}
-use Rattle.labelling.specs.Greatest.{HeldUp, Greatest, Placed}
-use Rattle.labelling.specs.Lowered.{Lowered, NoneLess}
-use Rattle.labelling.specs.Classes.{classParts}
-use Rattle.labelling.proofs.Classes.{classLaws}
-use Rattle.labelling.proofs.Whole.{inside-part}
-use Rattle.labelling.proofs.Same.{lowered-same}
-use Rattle.labelling.proofs.Lowering.{attempt-fails, lowered-step, lowered-stays}
+use Rattle.meaning.specs.Rules.{Book, Inside}
+use Rattle.meaning.specs.Values.{numbers}
+use Rattle.meaning.specs.Greatest.{HeldUp, Greatest, Placed}
+use Rattle.meaning.specs.Lowered.{Lowered, NoneLess}
+use Rattle.meaning.specs.Classes.{classParts}
+use Rattle.meaning.proofs.Classes.{classLaws}
+use Rattle.meaning.proofs.Whole.{inside-part}
+use Rattle.meaning.proofs.Same.{lowered-same}
+use Rattle.meaning.proofs.Lowering.{attempt-fails, lowered-step, lowered-stays}
 use Rattle.rules.specs.Table.{bookOf}
 use Rattle.accepts.proofs.Inside.{table-inside}
 use Rattle.solver.specs.Solving.{Buffers, held}

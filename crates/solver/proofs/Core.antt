@@ -11,13 +11,13 @@ use Rattle.classes.specs.Bits.{bit, LowestOne}
 use Rattle.classes.specs.Parts.{partCount, part, topOf}
 use Rattle.classes.specs.declared.Class.{Class}
 use Rattle.classes.proofs.Bits.{bit-ext, bit-of-zero}
-use Rattle.labelling.specs.Rules.{Inside}
-use Rattle.labelling.specs.Greatest.{HeldUp}
-use Rattle.labelling.specs.Lowered.{LabellingBelow, Lowered, WantedBelow}
-use Rattle.labelling.specs.Parts.{RefusedBelow}
-use Rattle.labelling.specs.Classes.{classParts}
-use Rattle.labelling.proofs.Settle.{greatest-labels, greatest-held}
-use Rattle.labelling.proofs.Lowering.{numbersLattice, lowered-start, lowered-end}
+use Rattle.meaning.specs.Rules.{Inside}
+use Rattle.meaning.specs.Greatest.{HeldUp}
+use Rattle.meaning.specs.Lowered.{LabellingBelow, Lowered, WantedBelow}
+use Rattle.meaning.specs.Parts.{RefusedBelow}
+use Rattle.meaning.specs.Classes.{classParts}
+use Rattle.meaning.proofs.Settle.{greatest-labels, greatest-held}
+use Rattle.meaning.proofs.Lowering.{numbersLattice, lowered-start, lowered-end}
 use Rattle.rules.specs.Table.{bookOf}
 use Rattle.solver.specs.Solving.{Buffers, labelsOf}
 use Rattle.solver.specs.Steps.{bookIn, valuesIn, labelsAt, Settles, Unheld}

@@ -14,17 +14,17 @@ use Rattle.classes.specs.Parts.{partCount, part, topOf}
 use Rattle.classes.specs.declared.Class.{Class}
 use Rattle.classes.proofs.Bits.{bit-small, bit-and, bit-not}
 use Rattle.classes.proofs.Parts.{join-parts, lowest-parts}
-use Rattle.labelling.specs.Rules as meant
-use Rattle.labelling.specs.Rules.{Rule, mapRule, joinOver}
-use Rattle.labelling.specs.Greatest.{MetUp, HeldUp}
-use Rattle.labelling.specs.Classes.{classes, classParts}
-use Rattle.labelling.proofs.Classes.{classLaws}
-use Rattle.labelling.proofs.Whole.{joins-parts}
+use Rattle.meaning.specs.Rules as meant
+use Rattle.meaning.specs.Rules.{Rule, mapRule, joinOver}
+use Rattle.meaning.specs.Greatest.{MetUp, HeldUp}
+use Rattle.meaning.specs.Classes.{classes, classParts}
+use Rattle.meaning.proofs.Classes.{classLaws}
+use Rattle.meaning.proofs.Whole.{joins-parts}
 use Rattle.rules.specs.Record.{leftOf, meaningOf}
 use Rattle.rules.specs.declared.Rule as table
 use Rattle.rules.proofs.Meaning.{meaning-floor, meaning-other}
 use Rattle.solver.specs.Solving.{Buffers, labelsOf}
-use Rattle.solver.specs.Steps.{valuesIn, labelsAt, bookIn, ruleAt, Short, Misses, Lacks, Unheld}
+use Rattle.solver.specs.Steps.{valuesIn, labelsAt, bookIn, meantAt, Short, Misses, Lacks, Unheld}
 
 pub missing-made : (x y w : Class) (l : ℕ) → x .marks < 2 ^ 64 → Short (x .level) (y .level) l → w ≡ classOf l (bitAnd (y .marks) (2 ^ 64 - 1 - x .marks)) → Misses x y w
 unfolding part
@@ -63,13 +63,13 @@ lacks-nothing x y same ne b =
 
 -- The first k rules.
 pub record LacksBefore (t : List ℕ) (b : Buffers) (k : ℕ) (w : Class) : Type 0 where
-  pub met : (p : ℕ) → p < partCount → part p w ≡ 0 → (q : ℕ) → q < k → MetUp (valuesIn p) (mapRule (part p) (ruleAt t q)) (labelsAt p b)
-  pub zero : (p : ℕ) → p < partCount → ((q : ℕ) → q < k → MetUp (valuesIn p) (mapRule (part p) (ruleAt t q)) (labelsAt p b)) → part p w ≡ 0
+  pub met : (p : ℕ) → p < partCount → part p w ≡ 0 → (q : ℕ) → q < k → MetUp (valuesIn p) (mapRule (part p) (meantAt t q)) (labelsAt p b)
+  pub zero : (p : ℕ) → p < partCount → ((q : ℕ) → q < k → MetUp (valuesIn p) (mapRule (part p) (meantAt t q)) (labelsAt p b)) → part p w ≡ 0
 
 pub lacks-none : {t : List ℕ} {b : Buffers} → LacksBefore t b 0 lowest
 lacks-none = record { met = λ p s z q l. absurd (not-suc-le-zero l); zero = λ p s h. lowest-parts p s }
 
-pub lacks-more : {t : List ℕ} {b : Buffers} {k : ℕ} {a c d : Class} → LacksBefore t b k a → Lacks (ruleAt t k) b c → d ≡ joined a c → LacksBefore t b (k + 1) d
+pub lacks-more : {t : List ℕ} {b : Buffers} {k : ℕ} {a c d : Class} → LacksBefore t b k a → Lacks (meantAt t k) b c → d ≡ joined a c → LacksBefore t b (k + 1) d
 lacks-more {t} {b} {k} {a} {c} {d} w x e = record {
   met = λ p s z. below-more _ _ (w .met p s (omega (arith, both p s))) (x .met p s (omega (arith, both p s)));
   zero = λ p s h. omega (arith, both p s, w .zero p s (λ q l. h q (omega arith)), x .zero p s (h k (omega arith)));

@@ -9,9 +9,9 @@ use native.Mathlib.Omega.{arith}
 use lib.ListN.{length, getD, set}
 use lib.Seq.{getD-set-same, getD-set-other}
 use Rattle.classes.specs.Class.{classOf, Covers, commonOf}
-use Rattle.classes.specs.Tells.{Tells}
+use Rattle.laws.specs.Tells.{Tells}
 use Rattle.classes.specs.declared.Class.{Class}
-use Rattle.labelling.specs.Greatest.{Placed}
+use Rattle.meaning.specs.Greatest.{Placed}
 use Rattle.solver.specs.Solving.{Buffers, held, labelsOf}
 use Rattle.solver.specs.Steps.{sum, sumOf, Tracks, LowersItem}
 use Rattle.solver.proofs.Common.{common-covered, common-falls}

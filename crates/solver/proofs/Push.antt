@@ -6,8 +6,8 @@ use mathlib.Core.List.{List}
 use Prim.Native.Nat.{ℕ, _+_, _<_}
 use native.Mathlib.Omega.{arith}
 use Rattle.classes.specs.declared.Class.{Class}
-use Rattle.labelling.specs.Rules.{cap, floor, follow, joinOver}
-use Rattle.labelling.specs.Classes.{classes}
+use Rattle.meaning.specs.Rules.{cap, floor, follow, joinOver}
+use Rattle.meaning.specs.Classes.{classes}
 use Rattle.rules.specs.Record.{leftItem, leftOf, meaningOf}
 use Rattle.rules.specs.declared.Rule.{Rule}
 use Rattle.rules.proofs.Meaning.{meaning-cap, meaning-floor, meaning-follow}

@@ -11,20 +11,20 @@ use native.Mathlib.Omega.{arith}
 use borrow.Author.Count.{below-more}
 use lib.ListN.{length}
 use Rattle.classes.specs.Parts.{partCount, part, topOf}
-use Rattle.labelling.specs.Rules.{Rule, mapRule}
-use Rattle.labelling.specs.Greatest.{MetDown, Between, Greatest}
-use Rattle.labelling.specs.Classes.{classes, classParts}
-use Rattle.labelling.proofs.Settle.{between-start, between-push, between-trans, between-met}
-use Rattle.labelling.proofs.Lowering.{numbersLattice}
-use Rattle.labelling.proofs.Whole.{inside-part, pushed-part, met-down-part}
-use Rattle.labelling.proofs.Classes.{classLaws}
+use Rattle.meaning.specs.Rules.{Rule, mapRule}
+use Rattle.meaning.specs.Greatest.{MetDown, Between, Greatest}
+use Rattle.meaning.specs.Classes.{classes, classParts}
+use Rattle.meaning.proofs.Settle.{between-start, between-push, between-trans, between-met}
+use Rattle.meaning.proofs.Lowering.{numbersLattice}
+use Rattle.meaning.proofs.Whole.{inside-part, pushed-part, met-down-part}
+use Rattle.meaning.proofs.Classes.{classLaws}
 use Rattle.classes.specs.declared.Class.{Class}
-use Rattle.rules.specs.Table.{recordAt, bookOf}
+use Rattle.rules.specs.Table.{ruleAt, bookOf}
 use Rattle.accepts.specs.Accepted.{RuleAccepted, TableAccepted}
 use Rattle.accepts.proofs.Inside.{table-inside}
 use Rattle.labels.specs.Labels.{Room}
 use Rattle.solver.specs.Solving.{Buffers, held, labelsOf}
-use Rattle.solver.specs.Steps.{bookIn, valuesIn, labelsAt, ruleAt, sumOf, Tracks, PushesRule, Sweeps, Settles, turnOf}
+use Rattle.solver.specs.Steps.{bookIn, valuesIn, labelsAt, meantAt, sumOf, Tracks, PushesRule, Sweeps, Settles, turnOf}
 use Rattle.solver.proofs.OneItem.{tracks-same}
 
 -- The turns of a sweep: each is a rule, and each rule has its turn.
@@ -69,17 +69,17 @@ or-right false y e = e
 or-right true y e = absurd (true≢false e)
 
 -- A push of rule r, seen in part p.
-part-push : {t : List ℕ} {m n : ℕ} → TableAccepted t m n → (p : ℕ) → p < partCount → (before : Buffers) {cur next : Buffers} {b : Bool} → Between (valuesIn p) (bookIn p t m n) (labelsAt p before) (labelsAt p cur) → (r : ℕ) → r < m → PushesRule n (ruleAt t r) cur next b → Between (valuesIn p) (bookIn p t m n) (labelsAt p before) (labelsAt p next)
+part-push : {t : List ℕ} {m n : ℕ} → TableAccepted t m n → (p : ℕ) → p < partCount → (before : Buffers) {cur next : Buffers} {b : Bool} → Between (valuesIn p) (bookIn p t m n) (labelsAt p before) (labelsAt p cur) → (r : ℕ) → r < m → PushesRule n (meantAt t r) cur next b → Between (valuesIn p) (bookIn p t m n) (labelsAt p before) (labelsAt p next)
 unfolding numbersLattice
 part-push {t} {m} {n} ok p s before {cur} {next} w r l x =
     between-push (valuesIn p) (numbersLattice (topOf p)) (inside-part classParts classLaws (bookOf t m n) (table-inside ok) p) w r l
-    (pushed-part classParts classLaws n (ruleAt t r) (labelsOf cur) (labelsOf next) (x .pushed) p s)
+    (pushed-part classParts classLaws n (meantAt t r) (labelsOf cur) (labelsOf next) (x .pushed) p s)
 
 -- After k turns of a sweep.
 pub record Swept (t : List ℕ) (m n : ℕ) (back : Bool) (before cur : Buffers) (changed : Bool) (k : ℕ) : Type 0 where
   pub sized : SameSize before cur
   pub between : (p : ℕ) → p < partCount → Between (valuesIn p) (bookIn p t m n) (labelsAt p before) (labelsAt p cur)
-  pub met : changed ≡ false → (j : ℕ) → j < k → MetDown classes (ruleAt t (turnOf back m j)) (labelsOf cur)
+  pub met : changed ≡ false → (j : ℕ) → j < k → MetDown classes (meantAt t (turnOf back m j)) (labelsOf cur)
   pub tracks : Tracks before cur changed
 
 pub swept-none : {t : List ℕ} {m n : ℕ} {back : Bool} {before : Buffers} → Swept t m n back before before false 0
@@ -90,27 +90,27 @@ swept-none {before = before} = record {
   tracks = tracks-same before;
 }
 
-pub swept-more : {t : List ℕ} {m n : ℕ} {back : Bool} {before cur next : Buffers} {changed fell : Bool} {k r : ℕ} → TableAccepted t m n → k < m → Swept t m n back before cur changed k → r ≡ turnOf back m k → PushesRule n (ruleAt t r) cur next fell → SameSize cur next → Swept t m n back before next (changed || fell) (k + 1)
+pub swept-more : {t : List ℕ} {m n : ℕ} {back : Bool} {before cur next : Buffers} {changed fell : Bool} {k r : ℕ} → TableAccepted t m n → k < m → Swept t m n back before cur changed k → r ≡ turnOf back m k → PushesRule n (meantAt t r) cur next fell → SameSize cur next → Swept t m n back before next (changed || fell) (k + 1)
 swept-more {t} {m} {n} {back} {before} {cur} {next} {changed} {fell} {k} {r} ok l w e x size = record {
   sized = size-trans (w .sized) size;
   between = λ p s. part-push ok p s before (w .between p s) r (subst (λ z. z < m) (sym e) (turn-below back m k l)) x;
   met = λ quiet. below-more _ _
       (λ j s. move quiet j (w .met (or-left changed fell quiet) j s))
-      (move quiet k (subst (λ z. MetDown classes (ruleAt t z) (labelsOf cur)) e (x .met (or-right changed fell quiet))));
+      (move quiet k (subst (λ z. MetDown classes (meantAt t z) (labelsOf cur)) e (x .met (or-right changed fell quiet))));
   tracks = tracks-trans changed fell (w .tracks) (x .tracks);
 }
   where
-    move : (changed || fell) ≡ false → (j : ℕ) → MetDown classes (ruleAt t (turnOf back m j)) (labelsOf cur) → MetDown classes (ruleAt t (turnOf back m j)) (labelsOf next)
-    move quiet j h = subst (λ b. MetDown classes (ruleAt t (turnOf back m j)) (labelsOf b)) (sym (x .tracks .same (or-right changed fell quiet))) h
+    move : (changed || fell) ≡ false → (j : ℕ) → MetDown classes (meantAt t (turnOf back m j)) (labelsOf cur) → MetDown classes (meantAt t (turnOf back m j)) (labelsOf next)
+    move quiet j h = subst (λ b. MetDown classes (meantAt t (turnOf back m j)) (labelsOf b)) (sym (x .tracks .same (or-right changed fell quiet))) h
 
 -- what the next push requires
-pub push-ready : {t : List ℕ} {m n k r : ℕ} (back : Bool) {before cur : Buffers} → Room n (before .levels) (before .marks) × TableAccepted t m n → SameSize before cur → k < m → r ≡ turnOf back m k → Room n (cur .levels) (cur .marks) × RuleAccepted n (recordAt t r)
+pub push-ready : {t : List ℕ} {m n k r : ℕ} (back : Bool) {before cur : Buffers} → Room n (before .levels) (before .marks) × TableAccepted t m n → SameSize before cur → k < m → r ≡ turnOf back m k → Room n (cur .levels) (cur .marks) × RuleAccepted n (ruleAt t r)
 push-ready {t} {m} {n} {k} {r} back (room, ok) size l e = (room-kept room size, ok .accepted .each r (subst (λ z. z < m) (sym e) (turn-below back m k l)) .accepted)
 
 pub swept-all : {t : List ℕ} {m n : ℕ} {back : Bool} {before cur : Buffers} {changed : Bool} {k : ℕ} → Swept t m n back before cur changed k → m ≤ k → Sweeps t m n before cur changed
 swept-all {t} {m} {n} {back} {before} {cur} w all = record {
   between = w .between;
-  met = λ e r s. subst (λ z. MetDown classes (ruleAt t z) (labelsOf cur)) (turn-again back m r s) (w .met e (turnOf back m r) (omega (arith, turn-below back m r s)));
+  met = λ e r s. subst (λ z. MetDown classes (meantAt t z) (labelsOf cur)) (turn-again back m r s) (w .met e (turnOf back m r) (omega (arith, turn-below back m r s)));
   tracks = w .tracks;
 }
 
@@ -133,5 +133,5 @@ settling-end {t} {m} {n} {before} {cur} {next} w x quiet = record {
   greatest = λ p s.
       between-met (valuesIn p) (numbersLattice (topOf p))
       (between-trans (valuesIn p) (numbersLattice (topOf p)) (w .between p s) (x .between p s))
-      (λ r l. met-down-part classParts classLaws (ruleAt t r) (labelsOf next) (x .met quiet r l) p s);
+      (λ r l. met-down-part classParts classLaws (meantAt t r) (labelsOf next) (x .met quiet r l) p s);
 }

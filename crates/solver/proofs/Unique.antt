@@ -10,9 +10,9 @@ use lib.Dec.{eqb}
 use lib.ListN.{length, getD}
 use lib.Seq.{ext-getD}
 use Rattle.classes.specs.declared.Class.{Class}
-use Rattle.labelling.specs.Labelling.{Wanted}
-use Rattle.labelling.specs.Classes.{classes, classParts}
-use Rattle.labelling.proofs.Demands.{wanted-unique, refused-unique, refused-unlabelled}
+use Rattle.meaning.specs.Labelling.{Wanted}
+use Rattle.meaning.specs.Classes.{classes, classParts}
+use Rattle.meaning.proofs.Demands.{wanted-unique, refused-unique, refused-unlabelled}
 use Rattle.rules.specs.Table.{bookOf}
 use Rattle.accepts.proofs.Inside.{table-inside}
 use Rattle.solver.specs.Solving.{Said, labelled, refused, said, Buffers, held, labelsOf, RestKept, WritesLabels, RefusesBook, SolveSays, bad-table, no-room, no-labelling, writes-labels}

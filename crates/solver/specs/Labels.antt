@@ -3,9 +3,9 @@
 use mathlib.Core.List.{List}
 use Prim.Native.Nat.{ℕ, _≤_, _<_}
 use Rattle.classes.specs.Parts.{partCount, topOf}
-use Rattle.labelling.specs.Lowered.{WantedBelow}
-use Rattle.labelling.specs.Parts.{RefusedBelow}
-use Rattle.labelling.specs.Classes.{classParts}
+use Rattle.meaning.specs.Lowered.{WantedBelow}
+use Rattle.meaning.specs.Parts.{RefusedBelow}
+use Rattle.meaning.specs.Classes.{classParts}
 use Rattle.rules.specs.Table.{bookOf}
 use Rattle.solver.specs.Solving.{Buffers, labelsOf}
 use Rattle.solver.specs.Steps.{bookIn, valuesIn, labelsAt}

@@ -7,7 +7,7 @@ use Prim.Native.Nat.{ℕ, suc, _-_, _≤_, _<_, min, max}
 use lib.ListN.{getD}
 use Rattle.classes.specs.Bits.{bit}
 use Rattle.classes.specs.Parts.{partCount}
-use Rattle.labelling.specs.Lowered.{Lowered, NoneLess}
+use Rattle.meaning.specs.Lowered.{Lowered, NoneLess}
 use Rattle.accepts.specs.Accepted.{TableAccepted}
 use Rattle.labels.specs.Labels.{Room}
 use Rattle.solver.specs.Solving.{Buffers, RestKept}

@@ -5,10 +5,10 @@ use mathlib.Core.List.{List}
 use Prim.Native.Nat.{ℕ, _≤_, _<_}
 use lib.ListN.{length, getD}
 use Rattle.classes.specs.declared.Class.{Class}
-use Rattle.labelling.specs.Labelling.{Wanted}
-use Rattle.labelling.specs.Parts.{Refused}
-use Rattle.labelling.specs.Classes.{classes, classParts}
-use Rattle.rules.specs.Record.{labelsIn}
+use Rattle.meaning.specs.Labelling.{Wanted}
+use Rattle.meaning.specs.Parts.{Refused}
+use Rattle.meaning.specs.Classes.{classes, classParts}
+use Rattle.labels.specs.Labels.{labelsIn}
 use Rattle.rules.specs.Table.{bookOf}
 use Rattle.accepts.specs.Accepted.{TableAccepted}
 use Rattle.labels.specs.Labels.{Room}

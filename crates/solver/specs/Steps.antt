@@ -7,13 +7,13 @@ use Prim.Native.Nat.{ℕ, suc, _+_, _-_, _≤_, _<_}
 use Rattle.classes.specs.Class.{Covers, commonOf}
 use Rattle.classes.specs.Parts.{partCount, part}
 use Rattle.classes.specs.declared.Class.{Class}
-use Rattle.labelling.specs.Greatest.{MetDown, MetUp, HeldUp, Between, Greatest, Placed, Pushed}
-use Rattle.labelling.specs.Parts.{inPart, partValues}
-use Rattle.labelling.specs.Rules.{Rule, mapRule, Book}
-use Rattle.labelling.specs.Values.{Values}
-use Rattle.labelling.specs.Classes.{classes, classParts}
+use Rattle.meaning.specs.Greatest.{MetDown, MetUp, HeldUp, Between, Greatest, Placed, Pushed}
+use Rattle.meaning.specs.Parts.{inPart, partValues}
+use Rattle.meaning.specs.Rules.{Rule, mapRule, Book}
+use Rattle.meaning.specs.Values.{Values}
+use Rattle.meaning.specs.Classes.{classes, classParts}
 use Rattle.rules.specs.Record.{meaningOf}
-use Rattle.rules.specs.Table.{recordAt, bookOf}
+use Rattle.rules.specs.Table.{ruleAt, bookOf}
 use Rattle.solver.specs.Solving.{Buffers, labelsOf}
 
 -- The book seen in part p, the values of part p, and labels seen in part p.
@@ -27,8 +27,8 @@ abbrev pub labelsAt : ℕ → Buffers → ℕ → ℕ
 labelsAt p b i = part p (labelsOf b i)
 
 -- The rule that stands at r.
-abbrev pub ruleAt : List ℕ → ℕ → Rule Class
-ruleAt t r = meaningOf (recordAt t r)
+abbrev pub meantAt : List ℕ → ℕ → Rule Class
+meantAt t r = meaningOf (ruleAt t r)
 
 -- The sum of all levels and mark words: it falls whenever a label does.
 unfoldable pub sum : List ℕ → ℕ
@@ -58,7 +58,7 @@ pub record PushesRule (n : ℕ) (r : Rule Class) (before after : Buffers) (chang
 -- Every rule is pushed once; where nothing changed, every cap and every follow is met.
 pub record Sweeps (t : List ℕ) (m n : ℕ) (before after : Buffers) (changed : Bool) : Type 0 where
   pub between : (p : ℕ) → p < partCount → Between (valuesIn p) (bookIn p t m n) (labelsAt p before) (labelsAt p after)
-  pub met : changed ≡ false → (r : ℕ) → r < m → MetDown classes (ruleAt t r) (labelsOf after)
+  pub met : changed ≡ false → (r : ℕ) → r < m → MetDown classes (meantAt t r) (labelsOf after)
   pub tracks : Tracks before after changed
 
 -- In every part the labels become the greatest below what they were that meet every cap and every follow.

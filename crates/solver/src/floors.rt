@@ -4,7 +4,7 @@ use rules::FLOOR;
 use rules::left_join;
 use rules::rule_at;
 ghost use Rattle.solver.specs.Solving.{held};
-ghost use Rattle.solver.specs.Steps.{Short, Misses, Lacks, Unheld, ruleAt};
+ghost use Rattle.solver.specs.Steps.{Short, Misses, Lacks, Unheld, meantAt};
 
 // The parts in which x does not cover y: level 1 if the level is short, and the marks that x lacks.
 fn missing(x: Class, y: Class) -> Class
@@ -22,7 +22,7 @@ fn short(a: u64, b: u64) -> u64
 
 // The parts in which rule r is a floor and is not met.
 fn lacking(rules: &[u64], r: usize, levels: &[u64], marks: &[u64]) -> Class
-    ensures { λ w. ⌜ Lacks (ruleAt (now (rules .entry)) r) (held (now (levels .entry)) (now (marks .entry))) w ⌝ }
+    ensures { λ w. ⌜ Lacks (meantAt (now (rules .entry)) r) (held (now (levels .entry)) (now (marks .entry))) w ⌝ }
 {
     let rule = rule_at(rules, r);
     if rule.kind != FLOOR {

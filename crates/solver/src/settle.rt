@@ -7,11 +7,11 @@ use rules::left_join;
 use rules::rule_at;
 ghost use mathlib.Core.Path.{_≡_};
 ghost use Prim.Native.Nat.{_+_, _<_};
-ghost use Rattle.rules.specs.Table.{recordAt};
+ghost use Rattle.rules.specs.Table.{ruleAt};
 ghost use Rattle.accepts.specs.Accepted.{RuleAccepted, TableAccepted};
 ghost use Rattle.labels.specs.Labels.{Room};
 ghost use Rattle.solver.specs.Solving.{held};
-ghost use Rattle.solver.specs.Steps.{LowersItem, PushesRule, Sweeps, Settles, ruleAt, turnOf};
+ghost use Rattle.solver.specs.Steps.{LowersItem, PushesRule, Sweeps, Settles, meantAt, turnOf};
 
 // Lowers item i to the common part of its label and a bound. Answers whether that changed anything.
 fn lower(levels: &mut [u64], marks: &mut [u64], i: usize, bound: Class) -> bool
@@ -30,8 +30,8 @@ fn lower(levels: &mut [u64], marks: &mut [u64], i: usize, bound: Class) -> bool
 
 // Lowers the item that rule r bounds from above to what the rule allows. Answers whether that changed anything.
 fn push(rules: &[u64], n: usize, r: usize, levels: &mut [u64], marks: &mut [u64]) -> bool
-    requires { ⌜ Room n (now levels) (now marks) × RuleAccepted n (recordAt (now rules) r) ⌝ }
-    ensures { λ x. ⌜ PushesRule n (ruleAt (now (rules .entry)) r) (held (now (levels .entry)) (now (marks .entry))) (held (now (levels .exit)) (now (marks .exit))) x ⌝ }
+    requires { ⌜ Room n (now levels) (now marks) × RuleAccepted n (ruleAt (now rules) r) ⌝ }
+    ensures { λ x. ⌜ PushesRule n (meantAt (now (rules .entry)) r) (held (now (levels .entry)) (now (marks .entry))) (held (now (levels .exit)) (now (marks .exit))) x ⌝ }
 {
     let rule = rule_at(rules, r);
     if rule.kind == CAP {

@@ -11,9 +11,10 @@ use lib.Dec.{ltb, eqb}
 use lib.ListN.{length, take, drop}
 use borrow.Author.Tests.{ltb-false}
 use Rattle.records.specs.Rows.{mostFields}
-use Rattle.refusals.specs.Numbers.{faultNumber, mostText}
+use Rattle.refusals.specs.Numbers.{faultNumber}
+use Rattle.refusals.specs.Sizes.{mostText}
 use Rattle.refusals.specs.declared.Fault.{Fault}
-use Rattle.puts.proofs.Over.{over-length, take-over}
+use Rattle.laws.proofs.Over.{over-length, take-over}
 use Rattle.exports.specs.Rows.{Taken, taken}
 use Rattle.exports.specs.Reading.{Run, allOf}
 use Rattle.exports.specs.Text.{Outcome, strippedFrom, HeldBackApart, Verdict, refused, csvSyntax}

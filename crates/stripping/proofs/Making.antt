@@ -11,8 +11,10 @@ use lib.Seq.{take-take, length-take-le, take-at, drop-at, drop-drop}
 use mir.Syntax.{w64}
 use mir.Val.{Fits}
 use borrow.Author.Tests.{lt-ltb, le-ltb}
-use Rattle.puts.specs.Writing.{over, Put}
-use Rattle.puts.proofs.Over.{over-is, over-none, set-over, over-length, take-over, drop-over, over-over, put-buffer, put-next}
+use Rattle.puts.specs.Writing.{Put}
+use Rattle.laws.specs.Over.{over}
+use Rattle.puts.proofs.Placed.{put-buffer, put-next}
+use Rattle.laws.proofs.Over.{over-is, over-none, set-over, over-length, take-over, drop-over, over-over}
 use Rattle.exports.specs.Text.{joined}
 use Rattle.exports.specs.Inner.{closedEach}
 use Rattle.exports.proofs.Joining.{closed-joined}

@@ -10,10 +10,13 @@ use lib.Dec.{ltb, eqb}
 use lib.ListN.{length, take}
 use lib.Seq.{length-take-le}
 use borrow.Author.Tests.{lt-ltb, le-ltb, ne-eqb}
-use Rattle.puts.specs.Writing.{Put, over}
-use Rattle.puts.proofs.Over.{over-none, take-over, put-buffer}
+use Rattle.puts.specs.Writing.{Put}
+use Rattle.laws.specs.Over.{over}
+use Rattle.puts.proofs.Placed.{put-buffer}
+use Rattle.laws.proofs.Over.{over-none, take-over}
 use Rattle.records.specs.Rows.{mostFields}
-use Rattle.refusals.specs.Numbers.{faultNumber, mostText}
+use Rattle.refusals.specs.Numbers.{faultNumber}
+use Rattle.refusals.specs.Sizes.{mostText}
 use Rattle.refusals.specs.declared.Fault.{Fault}
 use Rattle.exports.specs.Rows.{taken}
 use Rattle.exports.specs.Text.{linesOf, csvSyntax}

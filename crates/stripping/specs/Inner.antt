@@ -6,13 +6,13 @@ use mathlib.Core.List.{List, [], _∷_, _++_}
 use Prim.Native.Nat.{ℕ, zero, suc, _+_, _-_, _≤_, _<_}
 use lib.Dec.{ltb, eqb}
 use lib.ListN.{length, take, drop, getD}
-use Rattle.puts.specs.Writing.{over}
+use Rattle.laws.specs.Over.{over}
 use Rattle.records.specs.Fields.{fieldAt}
 use Rattle.records.specs.Inner.{Come}
 use Rattle.records.specs.Rows.{whole, more, bad, mostFields}
 use Rattle.records.specs.declared.Size.{Size}
 use Rattle.records.specs.declared.Field.{Field}
-use Rattle.refusals.specs.Numbers.{mostText}
+use Rattle.refusals.specs.Sizes.{mostText}
 use Rattle.exports.specs.Rows.{taken, recordOf}
 use Rattle.exports.specs.Text.{lineOf, linesOf}
 use Rattle.stripping.specs.declared.Front.{Front}

@@ -6,9 +6,10 @@ use mathlib.Core.List.{List}
 use Prim.Native.Nat.{ℕ}
 use lib.Dec.{ltb, eqb}
 use lib.ListN.{length}
-use Rattle.puts.specs.Writing.{over}
+use Rattle.laws.specs.Over.{over}
 use Rattle.records.specs.Rows.{mostFields}
-use Rattle.refusals.specs.Numbers.{faultNumber, mostText}
+use Rattle.refusals.specs.Numbers.{faultNumber}
+use Rattle.refusals.specs.Sizes.{mostText}
 use Rattle.refusals.specs.declared.Fault.{Fault}
 use Rattle.exports.specs.Rows.{Taken, taken}
 use Rattle.exports.specs.Text.{linesOf, csvSyntax}

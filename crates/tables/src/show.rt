@@ -3,7 +3,7 @@
 // A line of solving has the answer, and behind a bar what stands in the lent buffers after the labels, or all of it on a refusal. Buffers hold
 // 77/0000000000000077 at first. Where one buffer is longer, the words that the other lacks are shown as zero.
 use checker::Checked;
-use rules::label_at;
+use labels::label_at;
 use script::book::Book;
 use script::book::WITH;
 use script::numbers::number;

@@ -13,7 +13,7 @@ use mir.Val.{Fits}
 use borrow.Author.Tests.{lt-ltb, le-ltb, eq-eqb, ne-eqb}
 use Rattle.classes.specs.Class.{classOf}
 use Rattle.classes.specs.declared.Class.{Class}
-use Rattle.items.specs.Names.{nameByte}
+use Rattle.scans.specs.Bytes.{nameByte}
 use Rattle.scans.specs.Bytes.{byteAt, decimalByte, hexByte, runLen}
 use Rattle.scans.proofs.Places.{byte-inside}
 use Rattle.scans.proofs.Runs.{run-le, run-at}

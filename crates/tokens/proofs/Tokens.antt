@@ -15,8 +15,9 @@ use lib.Seq.{length-take-le, getD-take, take-at, drop-at, take-add, drop-cons, d
 use borrow.Author.Tests.{lt-ltb, le-ltb, eq-eqb, ne-eqb, ltb-false, eqb-true}
 use Rattle.classes.specs.Class.{classOf, IsClass, lowest, highest}
 use Rattle.classes.specs.declared.Class.{Class}
-use Rattle.classes.proofs.Bools.{true-not-false}
-use Rattle.items.specs.Names.{nameRoom, nameByte, isName}
+use Rattle.laws.proofs.Bools.{true-not-false}
+use Rattle.items.specs.Names.{nameRoom, isName}
+use Rattle.scans.specs.Bytes.{nameByte}
 use Rattle.items.proofs.Names.{spelled-name, name-spelled}
 use Rattle.scans.specs.Bytes.{byteAt, decimalByte, hexByte, runLen}
 use Rattle.scans.proofs.Runs.{run-no, run-le, run-at, run-all, run-append, run-take}

@@ -13,7 +13,7 @@ use lib.Arith.{digits-lt, digits-div, digits-mod}
 use lib.Dec.{leb, ltb}
 use lib.ListN.{length, length-append}
 use borrow.Author.Tests.{le-leb, lt-leb, lt-ltb, le-ltb, leb-true}
-use Rattle.classes.proofs.Bools.{and-left, and-right}
+use Rattle.laws.proofs.Bools.{and-left, and-right}
 use Rattle.scans.specs.Bytes.{byteAt, decimalByte, hexByte, runLen}
 use Rattle.scans.proofs.Runs.{run-append, all-head, all-tail}
 use Rattle.tokens.specs.Numbers.{digitValue, digit, valueAfter, valueOf, digitsOf, decimalLen}

@@ -7,7 +7,8 @@ use lib.Dec.{ltb, eqb}
 use lib.ListN.{take, drop}
 use Rattle.classes.specs.Class.{classOf}
 use Rattle.classes.specs.declared.Class.{Class}
-use Rattle.items.specs.Names.{nameRoom, nameByte}
+use Rattle.items.specs.Names.{nameRoom}
+use Rattle.scans.specs.Bytes.{nameByte}
 use Rattle.scans.specs.Bytes.{byteAt, decimalByte, hexByte, runLen}
 use Rattle.tokens.specs.Numbers.{valueOf, digitsOf, decimalOf}
 use Rattle.tokens.specs.declared.ReadName.{ReadName}

@@ -11,9 +11,10 @@ use lib.Dec.{eqb}
 use lib.ListN.{length, length-append}
 use borrow.Author.Tests.{eq-eqb, ne-eqb, lt-leb}
 use Rattle.puts.specs.Writing.{Put}
-use Rattle.puts.proofs.Over.{over-length, over-over, put-buffer, put-next}
+use Rattle.puts.proofs.Placed.{put-buffer, put-next}
+use Rattle.laws.proofs.Over.{over-length, over-over}
 use Rattle.writer.specs.Texts.{pieces}
-use Rattle.refusals.specs.Numbers.{mostText}
+use Rattle.refusals.specs.Sizes.{mostText}
 use Rattle.writer.specs.Pushing.{Grown}
 
 -- One piece: p is what putting it answered.

@@ -9,9 +9,9 @@ use native.Mathlib.Omega.{arith}
 use lib.ListN.{length, getD, length-append}
 use Rattle.items.specs.Table.{nameOf, ItemsOk}
 use Rattle.items.proofs.Table.{nameLen-most, nameOf-length}
-use Rattle.labels.specs.First.{AllBelow}
+use Rattle.laws.specs.First.{AllBelow}
 use Rattle.labels.specs.Labels.{LevelInRange}
-use Rattle.rules.specs.Record.{labelsIn}
+use Rattle.labels.specs.Labels.{labelsIn}
 use Rattle.keys.specs.Keys.{keyText}
 use Rattle.keys.specs.declared.Key.{Key}
 use Rattle.tokens.specs.Numbers.{decimalLen}
@@ -19,7 +19,7 @@ use Rattle.tokens.specs.Tokens.{countText, classText}
 use Rattle.tokens.proofs.Values.{digits-length, decimal-most, decimal-short}
 use Rattle.tokens.proofs.Tokens.{class-length}
 use Rattle.writer.specs.Texts.{pieces, formLine, endLine, labelKey, labelLine, labelsText}
-use Rattle.refusals.specs.Numbers.{mostText}
+use Rattle.refusals.specs.Sizes.{mostText}
 use Rattle.writer.proofs.Growing.{pieces-none, pieces-snoc}
 
 -- Pieces of at most 43 bytes each.

@@ -12,7 +12,7 @@ use Rattle.items.specs.Names.{nameRoom}
 use Rattle.items.specs.Table.{nameLen, nameOf, NameAt}
 use Rattle.items.proofs.Table.{nameLen-inside, nameOf-length, named-len}
 use Rattle.rules.specs.Record.{byKind, leftItem}
-use Rattle.rules.specs.Table.{recordAt}
+use Rattle.rules.specs.Table.{ruleAt}
 use Rattle.rules.specs.declared.Rule.{Rule}
 use Rattle.keys.specs.declared.Key.{Key}
 use Rattle.tokens.specs.Tokens.{countText, classText}
@@ -21,7 +21,7 @@ use Rattle.tokens.proofs.Values.{digits-length, decimal-least}
 use Rattle.tokens.proofs.Tokens.{class-length}
 use Rattle.writer.specs.Texts.{pieces, formLine, endLine, itemLine, leftPiece, rightText, ruleLine, bookText, labelLine, labelsText}
 use Rattle.writer.specs.Pushing.{Grown, Named}
-use Rattle.writer.specs.Writing.{Tables}
+use Rattle.accepts.specs.Tables.{Tables}
 use Rattle.writer.proofs.Growing.{grown-grown}
 
 -- The part of an item table that holds a name.
@@ -85,13 +85,13 @@ module _ (t : List ℕ) (x : Rule) {d : List ℕ} {at : ℕ} {d′ : List ℕ} {
   right-class named h g = subst (λ (l : List ℕ). Grown d at l d′ r) (same-two (x .kind) (classText (x .class)) (nameOf t (x .right)) (named .accepted .kind) h) g
 
 -- What each rule of two right tables names has a name.
-pub table-named : {t : List ℕ} {n : ℕ} {w : List ℕ} {m : ℕ} → Tables t n w m → {r : ℕ} → r < m → {x : Rule} → x ≡ recordAt w r → Named t x
+pub table-named : {t : List ℕ} {n : ℕ} {w : List ℕ} {m : ℕ} → Tables t n w m → {r : ℕ} → r < m → {x : Rule} → x ≡ ruleAt w r → Named t x
 table-named {t} {n} {w} {m} tables {r} h {x} e =
     rw e (record { count = n; names = tables .items; accepted = tables .rules .accepted .each r h .accepted })
 
 -- The whole text: the lines before the end line, and the end line.
 pub book-grown : (t : List ℕ) (n : ℕ) (w : List ℕ) (m : ℕ) {d d₁ : List ℕ} {r₁ : ℕ} {d₂ : List ℕ} {r₂ : ℕ}
-    → Grown d 0 (formLine ++ pieces (itemLine t) 0 n ++ pieces (λ k. ruleLine t (recordAt w k)) 0 m) d₁ r₁ → Grown d₁ r₁ (endLine (1 + n + m)) d₂ r₂
+    → Grown d 0 (formLine ++ pieces (itemLine t) 0 n ++ pieces (λ k. ruleLine t (ruleAt w k)) 0 m) d₁ r₁ → Grown d₁ r₁ (endLine (1 + n + m)) d₂ r₂
     → Grown d 0 (bookText t n w m) d₂ r₂
 unfolding bookText
 book-grown t n w m g h = grown-grown g h

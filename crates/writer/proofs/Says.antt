@@ -9,17 +9,19 @@ use native.Mathlib.Decide.{decLe}
 use native.Mathlib.Omega.{arith}
 use lib.ListN.{length, take, drop}
 use Rattle.items.specs.Table.{ItemsOk}
-use Rattle.labels.specs.First.{Sought}
+use Rattle.laws.specs.First.{Sought}
 use Rattle.labels.specs.Labels.{LevelInRange, Room}
 use Rattle.refusals.specs.declared.Fault.{Fault}
 use Rattle.accepts.specs.Accepted.{TableAccepted}
 use Rattle.puts.specs.Writing.{Put}
-use Rattle.puts.proofs.Over.{take-over, put-buffer}
+use Rattle.puts.proofs.Placed.{put-buffer}
+use Rattle.laws.proofs.Over.{take-over}
 use Rattle.writer.specs.declared.Written.{Written}
 use Rattle.writer.specs.Texts.{bookText, labelsText}
-use Rattle.refusals.specs.Numbers.{mostText}
+use Rattle.refusals.specs.Sizes.{mostText}
 use Rattle.writer.specs.Pushing.{Grown}
-use Rattle.writer.specs.Writing.{Tables, CopySays, roomless, copied, WriteSays, bad-table, too-long, no-room, written}
+use Rattle.writer.specs.Writing.{CopySays, roomless, copied, WriteSays, bad-table, too-long, no-room, written}
+use Rattle.accepts.specs.Tables.{Tables}
 use Rattle.writer.specs.Writing.{Labels, LabelsSays, bad-items, few-labels, bad-label, short-buffer, labelled}
 use Rattle.writer.proofs.Lengths.{labels-short}
 

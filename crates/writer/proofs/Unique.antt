@@ -4,7 +4,7 @@ use mathlib.Core.Path.{_≡_, refl, ap}
 use mathlib.Core.List.{List}
 use Prim.Native.Nat.{ℕ}
 use native.Mathlib.Omega.{arith}
-use Rattle.labels.proofs.First.{first-not-all, first-unique}
+use Rattle.laws.proofs.First.{first-not-all, first-unique}
 use Rattle.refusals.specs.declared.Fault.{Fault}
 use Rattle.writer.specs.declared.Written.{Written}
 use Rattle.writer.specs.Writing.{WriteSays, bad-table, too-long, no-room, written, LabelsSays, bad-items, few-labels, bad-label, short-buffer, labelled}

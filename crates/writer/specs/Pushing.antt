@@ -7,8 +7,8 @@ use lib.ListN.{length}
 use Rattle.items.specs.Table.{ItemsOk}
 use Rattle.rules.specs.declared.Rule.{Rule}
 use Rattle.accepts.specs.Accepted.{RuleAccepted}
-use Rattle.puts.specs.Writing.{over}
-use Rattle.refusals.specs.Numbers.{mostText}
+use Rattle.laws.specs.Over.{over}
+use Rattle.refusals.specs.Sizes.{mostText}
 
 -- The text x was to come at a place of the buffer d, which is now d′, and r is the next place: x stands there if it has room, and else the next
 -- place is past every text.

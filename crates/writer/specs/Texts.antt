@@ -5,8 +5,9 @@ use mathlib.Core.List.{List, [], _∷_, _++_}
 use Prim.Native.Nat.{ℕ, zero, suc, _+_}
 use lib.Dec.{ltb}
 use Rattle.items.specs.Table.{nameOf}
-use Rattle.rules.specs.Record.{byKind, leftItem, labelsIn}
-use Rattle.rules.specs.Table.{recordAt}
+use Rattle.rules.specs.Record.{byKind, leftItem}
+use Rattle.labels.specs.Labels.{labelsIn}
+use Rattle.rules.specs.Table.{ruleAt}
 use Rattle.rules.specs.declared.Rule.{Rule}
 use Rattle.keys.specs.Keys.{keyText}
 use Rattle.keys.specs.declared.Key.{Key}
@@ -48,7 +49,7 @@ ruleLine t x = keyText (ruleKey x) ++ leftText t x ++ rightText t x ++ 10 ∷ []
 
 -- A rulebook: its form line, its items, its rules in table order, and its end line with the lines before it.
 unfoldable pub bookText : List ℕ → ℕ → List ℕ → ℕ → List ℕ
-bookText t n w m = formLine ++ pieces (itemLine t) 0 n ++ pieces (λ r. ruleLine t (recordAt w r)) 0 m ++ endLine (1 + n + m)
+bookText t n w m = formLine ++ pieces (itemLine t) 0 n ++ pieces (λ r. ruleLine t (ruleAt w r)) 0 m ++ endLine (1 + n + m)
 
 -- "one line `label=NAME:CLASS` for each item in book order"
 abbrev pub labelKey : List ℕ

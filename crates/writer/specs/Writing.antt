@@ -4,11 +4,12 @@ use mathlib.Core.List.{List}
 use Prim.Native.Nat.{ℕ, _≤_, _<_}
 use lib.ListN.{length}
 use Rattle.items.specs.Table.{ItemsOk}
-use Rattle.labels.specs.First.{AllBelow, FirstFailing}
+use Rattle.laws.specs.First.{AllBelow, FirstFailing}
 use Rattle.labels.specs.Labels.{LevelInRange, Room}
 use Rattle.accepts.specs.Accepted.{TableAccepted}
-use Rattle.puts.specs.Writing.{over}
-use Rattle.refusals.specs.Numbers.{faultNumber, mostText}
+use Rattle.laws.specs.Over.{over}
+use Rattle.refusals.specs.Numbers.{faultNumber}
+use Rattle.refusals.specs.Sizes.{mostText}
 use Rattle.refusals.specs.declared.Fault.{Fault}
 use Rattle.writer.specs.declared.Written.{Written}
 use Rattle.writer.specs.Texts.{bookText, labelsText}

@@ -15,11 +15,11 @@ ghost use mathlib.Core.List.{_++_};
 ghost use Prim.Native.Nat.{_+_, _<_};
 ghost use Rattle.items.specs.Table.{NameAt, ItemsOk};
 ghost use Rattle.rules.specs.Record.{byKind};
-ghost use Rattle.rules.specs.Table.{recordAt};
+ghost use Rattle.rules.specs.Table.{ruleAt};
 ghost use Rattle.keys.specs.Keys.{keyText};
 ghost use Rattle.writer.specs.Texts.{pieces, formLine, endLine, itemLine, leftPiece, leftText, rightText, ruleKey, ruleLine, bookText};
 ghost use Rattle.writer.specs.Pushing.{Grown, Named};
-ghost use Rattle.writer.specs.Writing.{Tables};
+ghost use Rattle.accepts.specs.Tables.{Tables};
 
 // The form line.
 pub(crate) fn form_line(out: &mut [u8], at: usize) -> usize
@@ -126,7 +126,7 @@ fn item_lines(items: &[u8], n: usize, out: &mut [u8]) -> usize
 // The lines before the end line: the form line, the items' and the rules'.
 fn rule_lines(items: &[u8], n: usize, rules: &[u64], m: usize, out: &mut [u8]) -> usize
     requires { ⌜ Tables (now items) n (now rules) m ⌝ }
-    ensures { λ r. ⌜ Grown (now (out .entry)) 0 (formLine ++ pieces (itemLine (now (items .entry))) 0 n ++ pieces (λ k. ruleLine (now (items .entry)) (recordAt (now (rules .entry)) k)) 0 m) (now (out .exit)) r ⌝ }
+    ensures { λ r. ⌜ Grown (now (out .entry)) 0 (formLine ++ pieces (itemLine (now (items .entry))) 0 n ++ pieces (λ k. ruleLine (now (items .entry)) (ruleAt (now (rules .entry)) k)) 0 m) (now (out .exit)) r ⌝ }
 {
     let mut next = item_lines(items, n, out);
     let mut r = 0;

@@ -25,7 +25,7 @@ fn label_line(
     let name = push(b"label=", out, at);
     let colon = push_name(items, i, out, name);
     let class = push(b":", out, colon);
-    let lf = push_class(rules::label_at(levels, marks, i as u64), out, class);
+    let lf = push_class(labels::label_at(levels, marks, i as u64), out, class);
     push(b"\n", out, lf)
 }
 

@@ -1,5 +1,4 @@
 -- `rule_ok` meets its contract. Assumes nothing.
-use Rattle.classes.proofs.Tells.{told-no, told-yes}
 use Rattle.accepts.proofs.Accepts.{rule-left, rule-level, cap-many, cap-good, floor-good, rule-kind, follow-out, follow-level, follow-good}
 use borrow.Author.Needs.{needs}
 use Rattle.accepts.proofs.rule_ok.Statement.{statement}
@@ -9,7 +8,7 @@ left-ok-requires : tie.Need-left-ok-requires
 left-ok-requires c κs = search needs
 
 returns : tie.Need-returns
-returns c = search (rule-left, told-no, needs)
+returns c = search (rule-left, needs)
 
 returns-2 : tie.Need-returns-2
 returns-2 c = search (rule-level, needs)
@@ -18,10 +17,10 @@ returns-3 : tie.Need-returns-3
 returns-3 c = search (cap-many, needs)
 
 returns-4 : tie.Need-returns-4
-returns-4 c = let left = told-yes (c .before .before .before .before .before .before .before .before .left-ok .ensures) (c .before .before .before .before .before .before .before .if1 .left) in search (cap-good, needs)
+returns-4 c = search (cap-good, needs)
 
 returns-5 : tie.Need-returns-5
-returns-5 c = let left = told-yes (c .before .before .before .before .before .before .before .before .left-ok .ensures) (c .before .before .before .before .before .before .before .if1 .left) in search (floor-good, needs)
+returns-5 c = search (floor-good, needs)
 
 returns-6 : tie.Need-returns-6
 returns-6 c = search (rule-kind, needs)
@@ -33,7 +32,7 @@ returns-8 : tie.Need-returns-8
 returns-8 c = search (follow-level, needs)
 
 returns-9 : tie.Need-returns-9
-returns-9 c = let left = told-yes (c .before .before .before .before .before .before .before .before .before .before .before .before .before .before .left-ok .ensures) (c .before .before .before .before .before .before .before .before .before .before .before .before .before .if1 .left) in search (follow-good, needs)
+returns-9 c = search (follow-good, needs)
 
 pub rule-ok-spec : {M : Type 1} → statement M
 rule-ok-spec =

@@ -1,9 +1,9 @@
 -- `rules_ok` meets its contract. Assumes nothing.
-use Prim.Native.Nat.{ℕ, _≤_, _<_, _-_}
+use Prim.Native.Nat.{_≤_, _-_}
 use native.Mathlib.Omega.{arith}
-use borrow.Author.Count.{below-none, below-more}
-use Rattle.classes.proofs.Tells.{told-no, told-yes}
-use Rattle.rules.specs.Table.{recordAt}
+use Rattle.laws.specs.First.{AllBelow}
+use Rattle.laws.proofs.First.{all-none, all-told}
+use Rattle.rules.specs.Table.{ruleAt}
 use Rattle.accepts.specs.Accepted.{Standing}
 use Rattle.accepts.proofs.Accepts.{table-items, table-rules, table-short, table-bad, table-good}
 use borrow.Author.Needs.{needs}
@@ -11,16 +11,16 @@ use Rattle.accepts.proofs.rules_ok.Statement.{statement}
 use Rattle.accepts.proofs.rules_ok.Tie as tie
 
 abbrev Inv-loop : tie.InvT-loop
-Inv-loop rules m n r₀ r = ((q : ℕ) → q < r → Standing (recordAt rules) m n q) × (r ≤ m)
+Inv-loop rules head r₀ r = AllBelow (Standing head (ruleAt rules)) r × (r ≤ head .rules)
 
 abbrev μ-loop : tie.MeasureT-loop
-μ-loop rules m n r₀ r = m - r
+μ-loop rules head r₀ r = head .rules - r
 
 returns : tie.Need-returns Inv-loop μ-loop
 returns c = search (table-items, needs)
 
 returns-2 : tie.Need-returns-2 Inv-loop μ-loop
-returns-2 c = table-rules _ _ _ (omega arith)
+returns-2 c = table-rules _ _ (omega arith)
 
 mul-if3 : tie.Need-mul-if3 Inv-loop μ-loop
 mul-if3 c = search needs
@@ -29,13 +29,13 @@ returns-3 : tie.Need-returns-3 Inv-loop μ-loop
 returns-3 c = search (table-short, needs)
 
 loop-holds : tie.Need-loop-holds Inv-loop μ-loop
-loop-holds c = (below-none _, omega arith)
+loop-holds c = (all-none, omega arith)
 
 standing-requires : tie.Need-standing-requires Inv-loop μ-loop
 standing-requires c κs = search needs
 
 returns-4 : tie.Need-returns-4 Inv-loop μ-loop
-returns-4 c = table-bad _ _ _ _ (c .before .before .loop-test .taken) (told-no (c .before .standing .ensures) (c .if4 .taken))
+returns-4 c = search (table-bad, needs)
 
 add-r : tie.Need-add-r Inv-loop μ-loop
 add-r c = search needs
@@ -44,7 +44,7 @@ loop-less : tie.Need-loop-less Inv-loop μ-loop
 loop-less c = search needs
 
 loop-again : tie.Need-loop-again Inv-loop μ-loop
-loop-again c = (below-more _ _ (c .before .before .before .loop .inv .0) (told-yes (c .before .standing .ensures) (c .if4 .left)), omega arith)
+loop-again c = (all-told (c .before .before .before .before .loop .inv .0) (c .before .standing .ensures) (c .if5 .left), omega arith)
 
 returns-5 : tie.Need-returns-5 Inv-loop μ-loop
 returns-5 c = search (table-good, needs)

@@ -1,6 +1,6 @@
 -- `checker::check` meets its contract: rules that are not accepted, and rules that are.
 -- Assumes nothing.
-use Rattle.classes.proofs.Tells.{told-no, told-yes}
+use Rattle.laws.proofs.Tells.{told-no, told-yes}
 use Rattle.checker.proofs.Says.{says-bad-table, judges-accepted}
 use borrow.Author.Needs.{needs}
 use Rattle.checker.proofs.check.Statement.{statement}

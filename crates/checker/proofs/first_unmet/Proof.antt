@@ -2,17 +2,17 @@
 -- Assumes nothing.
 use Prim.Native.Nat.{_≤_, _-_}
 use native.Mathlib.Omega.{arith}
-use Rattle.rules.specs.Table.{recordAt}
-use Rattle.labels.specs.First.{AllBelow}
+use Rattle.rules.specs.Table.{ruleAt}
+use Rattle.laws.specs.First.{AllBelow}
 use Rattle.checker.specs.Checking.{RuleMet}
-use Rattle.labels.proofs.First.{all-none, all-more, sought-here, sought-nowhere}
+use Rattle.laws.proofs.First.{all-none, all-more, sought-here, sought-nowhere}
 use Rattle.checker.proofs.Meets.{rule-met, rule-unmet}
 use borrow.Author.Needs.{needs}
 use Rattle.checker.proofs.first_unmet.Statement.{statement}
 use Rattle.checker.proofs.first_unmet.Tie as tie
 
 abbrev Inv-loop : tie.InvT-loop
-Inv-loop rules m levels marks r₀ r = AllBelow (RuleMet (recordAt rules) levels marks) r × (r ≤ m)
+Inv-loop rules m levels marks r₀ r = AllBelow (RuleMet (ruleAt rules) levels marks) r × (r ≤ m)
 
 abbrev μ-loop : tie.MeasureT-loop
 μ-loop rules m levels marks r₀ r = m - r

@@ -1,6 +1,6 @@
 -- `checker::judged` meets its contract: one law for each answer.
 -- Assumes nothing.
-use Rattle.classes.proofs.Tells.{told-no, told-yes}
+use Rattle.laws.proofs.Tells.{told-no, told-yes}
 use Rattle.checker.proofs.Says.{judges-no-room, judges-bad-label, judges-unmet, judges-met}
 use borrow.Author.Needs.{needs}
 use Rattle.checker.proofs.judged.Statement.{statement}

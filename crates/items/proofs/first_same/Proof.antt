@@ -7,7 +7,7 @@ use native.Mathlib.Omega.{arith}
 use borrow.Author.Count.{below-none, below-more}
 use borrow.Author.Needs.{needs}
 use Rattle.items.specs.Lookup.{sameName}
-use Rattle.items.proofs.Search.{first-is}
+use Rattle.laws.proofs.Search.{first-is}
 use Rattle.items.proofs.Lookup.{lent-tells}
 use Rattle.items.proofs.first_same.Statement.{statement}
 use Rattle.items.proofs.first_same.Tie as tie

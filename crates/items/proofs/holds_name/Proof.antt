@@ -9,9 +9,9 @@ use lib.ListN.{take, drop}
 use borrow.Author.Needs.{needs}
 use borrow.Author.Tests.{not-true, not-false}
 use denote.Ref.{now}
-use Rattle.classes.specs.Tells.{Tells}
-use Rattle.classes.proofs.Bools.{true-not-false}
-use Rattle.classes.proofs.Tells.{tells-no}
+use Rattle.laws.specs.Tells.{Tells}
+use Rattle.laws.proofs.Bools.{true-not-false}
+use Rattle.laws.proofs.Tells.{tells-no}
 use Rattle.items.specs.Names.{nameRoom, isName}
 use Rattle.items.specs.Table.{nameLen, nameOf, ZerosFrom, NameAt}
 use Rattle.items.proofs.Names.{name-spelled, spelled-name}

@@ -9,9 +9,10 @@ use lib.ListN.{length, getD}
 use borrow.Author.Count.{below-none, below-more}
 use borrow.Author.Needs.{needs}
 use borrow.Author.Tests.{not-true, not-false}
-use Rattle.classes.proofs.Bools.{true-not-false}
-use Rattle.classes.proofs.Tells.{tells-unique, tells-no, tells-yes}
-use Rattle.items.specs.Names.{nameByte, isName}
+use Rattle.laws.proofs.Bools.{true-not-false}
+use Rattle.laws.proofs.Tells.{tells-unique, tells-no, tells-yes}
+use Rattle.items.specs.Names.{isName}
+use Rattle.scans.specs.Bytes.{nameByte}
 use Rattle.items.proofs.Names.{Spelled, name-tells}
 use Rattle.items.proofs.is_name.Statement.{statement}
 use Rattle.items.proofs.is_name.Tie as tie

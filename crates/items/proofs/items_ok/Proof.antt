@@ -5,7 +5,7 @@ use native.Mathlib.Omega.{arith}
 use borrow.Author.Count.{below-none, below-more}
 use borrow.Author.Needs.{needs}
 use borrow.Author.Tests.{not-true, not-false}
-use Rattle.classes.proofs.Tells.{tells-no, tells-yes}
+use Rattle.laws.proofs.Tells.{tells-no, tells-yes}
 use Rattle.items.specs.Table.{NameAt, NewAt}
 use Rattle.items.proofs.items_ok.Statement.{statement}
 use Rattle.items.proofs.items_ok.Tie as tie

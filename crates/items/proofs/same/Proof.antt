@@ -4,7 +4,7 @@ use Prim.Native.Nat.{ℕ, _-_, _<_}
 use native.Mathlib.Omega.{arith}
 use borrow.Author.Count.{below-none, below-more}
 use borrow.Author.Needs.{needs}
-use Rattle.classes.proofs.Tells.{tells-no, tells-yes}
+use Rattle.laws.proofs.Tells.{tells-no, tells-yes}
 use Rattle.items.specs.Names.{nameRoom}
 use Rattle.items.specs.Table.{entryByte}
 use Rattle.items.proofs.same.Statement.{statement}

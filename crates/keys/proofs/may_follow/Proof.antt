@@ -7,9 +7,9 @@ use native.Mathlib.Omega.{arith}
 use lib.Dec.{eqb}
 use lib.ListN.{getD}
 use borrow.Author.Needs.{needs}
-use Rattle.classes.specs.Every.{everyBelow}
-use Rattle.classes.proofs.Bools.{beq-same}
-use Rattle.classes.proofs.Every.{every-at}
+use Rattle.laws.specs.Every.{everyBelow}
+use Rattle.laws.proofs.Bools.{beq-same}
+use Rattle.laws.proofs.Every.{every-at}
 use Rattle.keys.specs.Keys.{nextAllowed}
 use Rattle.keys.proofs.KeyTexts.{next-past-rows, next-past-columns}
 use Rattle.keys.proofs.may_follow.Statement.{statement}

@@ -3,9 +3,9 @@
 use Prim.Native.Nat.{_≤_, _-_}
 use native.Mathlib.Omega.{arith}
 use borrow.Author.Needs.{needs}
-use Rattle.labels.specs.First.{AllBelow}
+use Rattle.laws.specs.First.{AllBelow}
 use Rattle.labels.specs.Labels.{LevelInRange}
-use Rattle.labels.proofs.First.{all-none, all-more, sought-here, sought-nowhere}
+use Rattle.laws.proofs.First.{all-none, all-more, sought-here, sought-nowhere}
 use Rattle.labels.proofs.Tested.{level-in-range, level-over}
 use Rattle.labels.proofs.first_bad.Statement.{statement}
 use Rattle.labels.proofs.first_bad.Tie as tie
@@ -19,8 +19,8 @@ abbrev μ-loop : tie.MeasureT-loop
 loop-holds : tie.Need-loop-holds Inv-loop μ-loop
 loop-holds c = (all-none, omega arith)
 
-level-at-requires : tie.Need-level-at-requires Inv-loop μ-loop
-level-at-requires c κs = search needs
+value-at-requires : tie.Need-value-at-requires Inv-loop μ-loop
+value-at-requires c κs = search needs
 
 returns : tie.Need-returns Inv-loop μ-loop
 returns c = search (sought-here, level-over, needs)
@@ -32,7 +32,7 @@ loop-less : tie.Need-loop-less Inv-loop μ-loop
 loop-less c = search needs
 
 loop-again : tie.Need-loop-again Inv-loop μ-loop
-loop-again c = (all-more (c .before .before .before .loop .inv .0) (level-in-range (c .before .level-at .ensures) (c .if1 .left)), omega arith)
+loop-again c = (all-more (c .before .before .before .loop .inv .0) (level-in-range (c .before .value-at .ensures) (c .if1 .left)), omega arith)
 
 returns-2 : tie.Need-returns-2 Inv-loop μ-loop
 returns-2 c = search (sought-nowhere, needs)
@@ -44,7 +44,7 @@ first-bad-spec =
     Inv-loop
     μ-loop
     loop-holds
-    level-at-requires
+    value-at-requires
     returns
     add-i
     loop-less

@@ -4,7 +4,7 @@ use Prim.Native.Nat.{_+_, _-_, _≤_}
 use native.Mathlib.Omega.{arith}
 use lib.ListN.{length}
 use borrow.Author.Needs.{needs}
-use Rattle.puts.proofs.Over.{put-nowhere}
+use Rattle.puts.proofs.Placed.{put-nowhere}
 use Rattle.puts.proofs.Puts.{room-yes, Copied, copied-none, copied-more, copied-end}
 use Rattle.puts.proofs.put.Statement.{statement}
 use Rattle.puts.proofs.put.Tie as tie

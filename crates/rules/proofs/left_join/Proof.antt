@@ -2,17 +2,18 @@
 use mathlib.Core.Path.{_≡_}
 use Prim.Native.Nat.{_≤_, _-_}
 use native.Mathlib.Omega.{arith}
-use Rattle.rules.specs.Record.{labelsIn}
+use Rattle.refusals.specs.Sizes.{mostLeft}
+use Rattle.labels.specs.Labels.{labelsIn}
 use Rattle.rules.proofs.Laws.{JoinSoFar, join-none, join-more, join-all}
 use borrow.Author.Needs.{needs}
 use Rattle.rules.proofs.left_join.Statement.{statement}
 use Rattle.rules.proofs.left_join.Tie as tie
 
 abbrev Inv-loop : tie.InvT-loop
-Inv-loop levels marks rule count join₀ k₀ join k = JoinSoFar rule (labelsIn levels marks) k join × (k ≤ 8) × (k ≤ rule .count) × (count ≡ rule .count)
+Inv-loop levels marks rule count join₀ k₀ join k = JoinSoFar rule (labelsIn levels marks) k join × (k ≤ mostLeft) × (k ≤ rule .count) × (count ≡ rule .count)
 
 abbrev μ-loop : tie.MeasureT-loop
-μ-loop levels marks rule count join₀ k₀ join k = 8 - k
+μ-loop levels marks rule count join₀ k₀ join k = mostLeft - k
 
 loop-holds : tie.Need-loop-holds Inv-loop μ-loop
 loop-holds c = (join-none, omega arith, omega arith, omega arith)

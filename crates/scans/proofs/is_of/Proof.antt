@@ -1,6 +1,5 @@
 -- `is_of` meets its contract, kind by kind. Assumes nothing.
 use borrow.Author.Needs.{needs}
-use Rattle.scans.specs.Bytes.{lineByte}
 use Rattle.scans.proofs.is_of.Statement.{statement}
 use Rattle.scans.proofs.is_of.Tie as tie
 
@@ -22,9 +21,6 @@ enum-told-3 c = search needs
 is-hex-requires : tie.Need-is-hex-requires
 is-hex-requires c κs = search needs
 
-enum-told-4 : tie.Need-enum-told-4
-enum-told-4 c = search needs
-
 returns : tie.Need-returns
 returns c = cc
 
@@ -33,10 +29,6 @@ returns-2 c = cc
 
 returns-3 : tie.Need-returns-3
 returns-3 c = cc
-
-returns-4 : tie.Need-returns-4
-unfolding lineByte
-returns-4 c = rw (c .enum-told4 .given .1)
 
 pub is-of-spec : {M : Type 1} → statement M
 is-of-spec =
@@ -48,8 +40,6 @@ is-of-spec =
     is-decimal-requires
     enum-told-3
     is-hex-requires
-    enum-told-4
     returns
     returns-2
-    returns-3
-    returns-4)
+    returns-3)

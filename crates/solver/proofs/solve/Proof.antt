@@ -1,6 +1,6 @@
 -- `solve` meets its contract. Assumes nothing.
 use native.Mathlib.Omega.{arith}
-use Rattle.classes.proofs.Tells.{told-no, told-yes}
+use Rattle.laws.proofs.Tells.{told-no, told-yes}
 use Rattle.solver.proofs.Answers.{says-table, says-levels, says-marks, says-without, says-labelled, highest-start, highest-bounded}
 use borrow.Author.Needs.{needs}
 use Rattle.solver.proofs.solve.Statement.{statement}

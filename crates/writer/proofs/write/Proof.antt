@@ -2,8 +2,8 @@
 use Prim.Native.Nat.{ℕ}
 use lib.ListN.{length-replicate}
 use borrow.Author.Needs.{needs}
-use Rattle.classes.proofs.Tells.{told-no, told-yes}
-use Rattle.writer.specs.Writing.{Tables}
+use Rattle.laws.proofs.Tells.{told-no, told-yes}
+use Rattle.accepts.specs.Tables.{Tables}
 use Rattle.writer.proofs.Says.{tables-right, says-bad-items, says-bad-rules, says-too-long, says-copied}
 use Rattle.writer.proofs.write.Statement.{statement}
 use Rattle.writer.proofs.write.Tie as tie

@@ -3,7 +3,7 @@ use Prim.Native.Nat.{ℕ}
 use native.Mathlib.Omega.{arith}
 use lib.ListN.{length-replicate}
 use borrow.Author.Needs.{needs}
-use Rattle.classes.proofs.Tells.{told-no, told-yes}
+use Rattle.laws.proofs.Tells.{told-no, told-yes}
 use Rattle.writer.specs.Writing.{Labels}
 use Rattle.writer.proofs.Says.{says-bad-names, says-few-labels, says-bad-label, labels-right, labels-held, says-labelled}
 use Rattle.writer.proofs.write_labels.Statement.{statement}

@@ -1,6 +1,6 @@
 -- `checker::list::answer` meets its contract.
 -- Assumes nothing.
-use Rattle.classes.proofs.Tells.{told-no, told-yes}
+use Rattle.laws.proofs.Tells.{told-no, told-yes}
 use Rattle.checker.proofs.Walking.{concludes-sizes, concludes-order, concludes-judged}
 use borrow.Author.Needs.{needs}
 use Rattle.checker.proofs.list.answer.Statement.{statement}

@@ -51,7 +51,7 @@ use denote.Triple.Walked.{says, Stays, stay-dropped, walkOf, goes-dropped, Walks
 use denote.Exit.{yes}
 use denote.Triple.Clauses.{ensured, lasts}
 use Rattle.rules.specs.declared.Rule.{Rule}
-use Rattle.rules.specs.Table.{recordAt}
+use Rattle.rules.specs.Table.{ruleAt}
 use Rattle.rules.proofs.Rule as R
 use Rattle.rules.proofs.Rule.Laws as R′
 use Rattle.checker.specs.declared.Checked.{Checked}
@@ -411,10 +411,10 @@ module _ {M : Type 1} (𝓤 : URA M) (H : Heap 𝓤) (A : Atoms 𝓤) (W : Given
           rewrite ! 5 (λ (p′ : ℕ). ‵ (fat fullShare tyPtr l₁₂ 0 (vptr b p′))) (sym (place-is 104 o (t .i))) refl $
           move ! (2 ∷ 1 ∷ []) $
           looks-slice ! tt R.the-row (Is R.the-row) (shows 𝓤 H A R.the-row) (LL.vals R.the-type R′.the-laws) (LL.tells R.the-type R′.the-laws) (LL.copy R.the-type R′.the-copy 𝓤 H A W) ys b o (λ q′.
-          elem-out ! R.the-row (Is R.the-row) (shows 𝓤 H A R.the-row) (LL.vals R.the-type R′.the-laws) (LL.tells R.the-type R′.the-laws) q′ ys (t .i) (recordAt [] 0) b o there (λ isx.
+          elem-out ! R.the-row (Is R.the-row) (shows 𝓤 H A R.the-row) (LL.vals R.the-type R′.the-laws) (LL.tells R.the-type R′.the-laws) q′ ys (t .i) (ruleAt [] 0) b o there (λ isx.
           -- [rule i; what it owns; the other rules; what shuts the list; the list; what a callee takes; the locals]
           assigns ! (of-opd ! (load ! (from ! (hop ! (look ! 8 refl) (stop !))) (look-raw ! 0 refl))) (from ! (stop !)) (init ! 6 refl (LL.lawful R.the-type R′.the-laws 𝓤 H A W .typed (rule t) _ isx .0)) $
-          elem-back ! R.the-row q′ ys (t .i) (recordAt [] 0) (mach t ∷ []) b o there $ shuts-slice ! tt R.the-row q′ ys b o $ move ! (2 ∷ 0 ∷ []) $ steps t less isx))
+          elem-back ! R.the-row q′ ys (t .i) (ruleAt [] 0) (mach t ∷ []) b o there $ shuts-slice ! tt R.the-row q′ ys b o $ move ! (2 ∷ 0 ∷ []) $ steps t less isx))
         where
           there : t .i < length ys
           there = lt-of-lt-of-le less (count .room)

@@ -1,6 +1,6 @@
 -- `checker::list::unmet_after` meets its contract.
 -- Assumes nothing.
-use Rattle.classes.proofs.Tells.{told-no, told-yes}
+use Rattle.laws.proofs.Tells.{told-no, told-yes}
 use Rattle.checker.proofs.Walking.{sought-earlier, sought-now, sought-none}
 use borrow.Author.Needs.{needs}
 use Rattle.checker.proofs.list.unmet_after.Statement.{statement}

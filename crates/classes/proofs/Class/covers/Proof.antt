@@ -7,9 +7,9 @@ use lib.Dec.{eqb}
 use mathlib.Core.Bool.{false}
 use Rattle.classes.specs.declared.Class.{Class}
 use Rattle.classes.specs.Class.{Covers}
-use Rattle.classes.specs.Tells.{Tells}
+use Rattle.laws.specs.Tells.{Tells}
 use Rattle.classes.proofs.Bits.{outside-none, none-outside}
-use Rattle.classes.proofs.Tells.{tells-no, tells-eqb}
+use Rattle.laws.proofs.Tells.{tells-no, tells-eqb}
 use Rattle.classes.proofs.Class.covers.Statement.{statement}
 use Rattle.classes.proofs.Class.covers.Tie as tie
 

@@ -7,9 +7,9 @@ use mathlib.Core.Bool.{false}
 use Rattle.classes.specs.declared.Class.{Class}
 use Rattle.classes.specs.Bits.{bit}
 use Rattle.classes.specs.Class.{HasMark}
-use Rattle.classes.specs.Tells.{Tells}
+use Rattle.laws.specs.Tells.{Tells}
 use Rattle.classes.proofs.Bits.{bit-high}
-use Rattle.classes.proofs.Tells.{tells-no, tells-eqb}
+use Rattle.laws.proofs.Tells.{tells-no, tells-eqb}
 use Rattle.classes.proofs.Class.has_mark.Statement.{statement}
 use Rattle.classes.proofs.Class.has_mark.Tie as tie
 

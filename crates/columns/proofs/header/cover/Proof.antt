@@ -3,7 +3,7 @@
 use Prim.Native.Nat.{_-_, _≤_}
 use native.Mathlib.Omega.{arith}
 use borrow.Author.Needs.{needs}
-use Rattle.rules.specs.Record.{labelsIn}
+use Rattle.labels.specs.Labels.{labelsIn}
 use Rattle.columns.specs.Inner.{Covering}
 use Rattle.columns.proofs.Covered.{cover-none, cover-more, cover-all}
 use Rattle.columns.proofs.header.cover.Statement.{statement}

@@ -5,7 +5,7 @@ use native.Mathlib.Omega.{arith}
 use lib.ListN.{getD}
 use borrow.Author.Count.{below-none, below-more}
 use borrow.Author.Needs.{needs}
-use Rattle.classes.proofs.Tells.{tells-no, tells-yes}
+use Rattle.laws.proofs.Tells.{tells-no, tells-yes}
 use Rattle.columns.proofs.header.holds.Statement.{statement}
 use Rattle.columns.proofs.header.holds.Tie as tie
 

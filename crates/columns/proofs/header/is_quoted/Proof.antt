@@ -1,6 +1,6 @@
 -- `is_quoted` meets its contract: its tests are those of the definition. Assumes nothing.
 use native.Mathlib.Omega.{arith}
-use Rattle.classes.proofs.Tells.{tells-no, tells-eqb}
+use Rattle.laws.proofs.Tells.{tells-no, tells-eqb}
 use Rattle.columns.proofs.Quoted.{here-within}
 use Rattle.columns.proofs.header.is_quoted.Statement.{statement}
 use Rattle.columns.proofs.header.is_quoted.Tie as tie

@@ -3,7 +3,7 @@
 use mathlib.Core.Path.{_∙_}
 use Prim.Native.Nat.{_-_}
 use borrow.Author.Needs.{needs}
-use Rattle.rules.specs.Table.{recordAt}
+use Rattle.rules.specs.Table.{ruleAt}
 use Rattle.writer.specs.Texts.{ruleLine}
 use Rattle.writer.proofs.Growing.{GrownBy, grown-none, grown-more, grown-all}
 use Rattle.writer.proofs.Lines.{table-named}
@@ -11,7 +11,7 @@ use Rattle.writer.proofs.book.rule_lines.Statement.{statement}
 use Rattle.writer.proofs.book.rule_lines.Tie as tie
 
 abbrev Inv-loop : tie.InvT-loop
-Inv-loop items n rules m out₀ next₀ r₀ out next r = GrownBy (λ k. ruleLine items (recordAt rules k)) m out₀ next₀ r out next
+Inv-loop items n rules m out₀ next₀ r₀ out next r = GrownBy (λ k. ruleLine items (ruleAt rules k)) m out₀ next₀ r out next
 
 abbrev μ-loop : tie.MeasureT-loop
 μ-loop items n rules m out₀ next₀ r₀ out next r = m - r

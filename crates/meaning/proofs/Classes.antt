@@ -1,0 +1,39 @@
+-- Classes have parts as the argument asks, so that every theorem about values with parts is one about classes.
+-- Assumes nothing.
+use mathlib.Core.Bool.{Bool, _&&_}
+use Prim.Native.Nat.{ℕ, _^_}
+use lib.Dec.{T, leb, ltb, leb→le, ltb→lt}
+use Rattle.classes.specs.Class.{IsClass, commonOf}
+use Rattle.classes.specs.Parts.{fromParts}
+use Rattle.classes.specs.declared.Class.{Class}
+use Rattle.classes.proofs.Parts.{covers-parts, parts-cover, join-parts, common-parts, lowest-parts, part-top, fromParts-part, fromParts-class, parts-ext, class-discrete}
+use Rattle.meaning.specs.Classes.{classes, classParts}
+use Rattle.meaning.proofs.PartLaws.{PartLaws}
+use Rattle.meaning.proofs.Search.{and-left, and-right}
+
+abbrev pub classLaws : PartLaws classParts
+classLaws = record {
+  discrete = class-discrete;
+  below-parts = λ x y h p s. covers-parts h p s;
+  parts-below = λ x y h. parts-cover h;
+  join-parts = join-parts;
+  common = commonOf;
+  common-parts = common-parts;
+  lowest-parts = lowest-parts;
+  part-top = λ x is p s. part-top is p s;
+  same-parts = λ x y is it h. parts-ext is it h;
+  make = fromParts;
+  make-is = fromParts-class;
+  make-part = fromParts-part;
+}
+
+-- whether a level and marks are a class
+unfoldable pub isClassb : Class → Bool
+isClassb x = leb (x .level) 15 && ltb (x .marks) (2 ^ 64)
+
+pub isClassb-holds : (x : Class) → T (isClassb x) → IsClass x
+unfolding isClassb
+isClassb-holds x t = record {
+  level = leb→le (x .level) 15 (and-left (leb (x .level) 15) _ t);
+  marks = ltb→lt (x .marks) (2 ^ 64) (and-right (leb (x .level) 15) _ t);
+}
