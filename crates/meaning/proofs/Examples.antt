@@ -12,7 +12,7 @@ use Rattle.classes.specs.Parts.{part, topOf}
 use Rattle.classes.specs.declared.Class.{Class}
 use Rattle.meaning.specs.Rules.{Book}
 use Rattle.meaning.specs.Classes.{classes, classParts}
-use Rattle.meaning.specs.Examples.{Answer, labels, refused, Example, labelsIn, Right, examples, p8}
+use Rattle.meaning.specs.Examples.{Answer, labels, refused, Example, listed, Right, examples, p8}
 use Rattle.meaning.proofs.Search.{every-at, failing, and-left, and-right}
 use Rattle.meaning.proofs.Settle.{tabulate, total, metDownb, metUpb, push, settle, greatestList, solvableb}
 use Rattle.meaning.proofs.Lowering.{numbersLattice}
@@ -21,12 +21,12 @@ use Rattle.meaning.proofs.Classes.{classLaws, isClassb, isClassb-holds}
 
 -- whether an answer is the right one for a book
 unfoldable rightb : Book Class → Answer → Bool
-rightb b (labels l) = eqb (length l) (b .items) && wantedb classParts classLaws isClassb isClassb-holds b (labelsIn l)
+rightb b (labels l) = eqb (length l) (b .items) && wantedb classParts classLaws isClassb isClassb-holds b (listed l)
 rightb b (refused p) = refusedb classParts classLaws isClassb isClassb-holds b p
 
 rightb-holds : (b : Book Class) (a : Answer) → T (rightb b a) → Right b a
 unfolding rightb
-rightb-holds b (labels l) t = (eqb→eq (length l) (b .items) (and-left (eqb (length l) (b .items)) _ t), wantedb-holds classParts classLaws isClassb isClassb-holds b (labelsIn l) (and-right (eqb (length l) (b .items)) _ t))
+rightb-holds b (labels l) t = (eqb→eq (length l) (b .items) (and-left (eqb (length l) (b .items)) _ t), wantedb-holds classParts classLaws isClassb isClassb-holds b (listed l) (and-right (eqb (length l) (b .items)) _ t))
 rightb-holds b (refused p) t = refusedb-holds classParts classLaws isClassb isClassb-holds b p t
 
 abbrev pub exampleAt : ℕ → Example

@@ -13,7 +13,7 @@ use Rattle.meaning.specs.Rules.{Book, Inside}
 use Rattle.meaning.specs.Labelling.{Labelling, Wanted}
 use Rattle.meaning.specs.Parts.{Refused}
 use Rattle.meaning.specs.Classes.{classes, classParts}
-use Rattle.meaning.specs.Examples.{Example, Right, labelsIn, p3, p4}
+use Rattle.meaning.specs.Examples.{Example, Right, listed, p3, p4}
 use Rattle.meaning.proofs.Trial.{leftb, ruleb, insideb, insideb-holds}
 use Rattle.meaning.proofs.Examples.{examples-right}
 use Rattle.meaning.proofs.Demands.{wanted-unique, refused-unlabelled}

@@ -20,12 +20,12 @@ pub record Example : Type 0 where
   pub book : Book Class
   pub answer : Answer
 
-abbrev pub labelsIn : List Class → ℕ → Class
-labelsIn l i = getD l i lowest
+abbrev pub listed : List Class → ℕ → Class
+listed l i = getD l i lowest
 
 -- The answer is right by the definitions: the labels are the wanted ones, or the part is the refused one.
 abbrev pub Right : Book Class → Answer → Type 0
-Right b (labels l) = (length l ≡ b .items) × Wanted classes b (labelsIn l)
+Right b (labels l) = (length l ≡ b .items) × Wanted classes b (listed l)
 Right b (refused p) = Refused classParts b p
 
 -- a left side of one item, and of two
