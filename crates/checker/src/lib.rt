@@ -40,12 +40,8 @@ pub fn check(rules: &[u64], head: Head, levels: &[u64], marks: &[u64]) -> Checke
     if !accepts::rules_ok(rules, head) {
         return refused(Fault::BadTable, 0);
     }
-    judged(
-        first_unmet(rules, head.rules, levels, marks),
-        head,
-        levels,
-        marks,
-    )
+    let unmet = first_unmet(rules, head.rules, levels, marks);
+    judged(unmet, head, levels, marks)
 }
 
 // What is answered of accepted rules, where the search for a rule that is not met told this number.
