@@ -1,5 +1,4 @@
--- Why it is true: words put into a table, names looked up, what one line gives, what a whole text gives, and where reading refuses.
-pub mod Put
+-- Why it is true: names looked up, what one line gives, what a whole text gives, and where reading refuses.
 pub mod LookUps
 pub mod Turns
 pub mod Whole

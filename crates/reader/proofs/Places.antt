@@ -8,9 +8,8 @@ use native.Mathlib.Nat.{le-refl}
 use native.Mathlib.Omega.{arith}
 use lib.Dec.{ltb, leb, eqb}
 use lib.ListN.{length, drop, length-drop}
-use Rattle.refusals.specs.Sizes.{mostItems}
+use Rattle.refusals.specs.Sizes.{mostItems, mostRules, mostLeft}
 use Rattle.items.specs.Lookup.{findIn}
-use Rattle.refusals.specs.Sizes.{mostRules, mostLeft}
 use Rattle.keys.specs.Keys.{keyNumber, nextAllowed}
 use Rattle.keys.specs.declared.Key.{Key}
 use Rattle.lines.specs.Lines.{lineAt, lineLen}
@@ -24,8 +23,8 @@ use Rattle.reader.proofs.Whole.{Few, TurnSays, either, step-says}
 
 -- A refusal is at most n.
 abbrev pub Near : ℕ → ReadBook → Type 0
-Near n (ReadBook.Book i r) = Unit
-Near n (ReadBook.Refused f p) = p ≤ n
+Near n (ReadBook.Book h) = Unit
+Near n (ReadBook.Refused r) = r .place ≤ n
 
 -- A line that stops is refused at itself or at the next line.
 abbrev StopNear : State → Turn → Type 0
@@ -79,8 +78,8 @@ step-near st [] = here st
 step-near st (b ∷ l) = line-near st (b ∷ l) (lineAt (b ∷ l))
 
 pub near-more : (m n : ℕ) (r : ReadBook) → m ≤ n → Near m r → Near n r
-near-more m n (ReadBook.Book i k) h g = tt
-near-more m n (ReadBook.Refused f p) h g = omega arith
+near-more m n (ReadBook.Book b) h g = tt
+near-more m n (ReadBook.Refused r) h g = omega arith
 
 go-near : (f : ℕ) (st : State) (l : List ℕ) (t : Turn) → TurnSays st l t → StopNear st t
     → ((next : State) (k : ℕ) → Few (next .counts) → Near (next .counts .lines + length (drop k l) + 2) (readFrom f next (drop k l) .answer))

@@ -13,11 +13,11 @@ use mir.Syntax.{w64}
 use mir.Val.{Fits}
 use borrow.Author.Tests.{ltb-true}
 use Rattle.laws.proofs.Bools.{and-left}
+use Rattle.refusals.specs.Sizes.{mostItems, mostRules, mostLeft}
 use Rattle.items.specs.Names.{nameRoom}
-use Rattle.refusals.specs.Sizes.{mostItems}
 use Rattle.items.specs.Lookup.{findIn}
 use Rattle.rules.specs.Table.{ruleWords}
-use Rattle.refusals.specs.Sizes.{mostRules, mostLeft}
+use Rattle.rules.specs.declared.Head.{Head}
 use Rattle.keys.specs.Keys.{keyNumber, nextAllowed}
 use Rattle.keys.specs.declared.Key.{Key}
 use Rattle.lines.specs.Lines.{lineAt, lineLen}
@@ -30,20 +30,20 @@ use Rattle.reader.specs.declared.line.Stepped.{Stepped}
 use Rattle.reader.specs.Names.{rising}
 use Rattle.reader.specs.Lines.{State, start, Result, Turn, on, stop, isAbsent, itemName, leftPlaces, leftNumbers, allFound, itemStep, ruleStep, endStep, keyStep, lineStep, step}
 use Rattle.reader.specs.Reading.{goOn, readFrom, readText}
-use Rattle.reader.specs.Inner.{stateOf, turnOf, Ready, StartsEmpty, resultIs}
+use Rattle.reader.specs.Inner.{stateOf, turnOf, Ready, StartsEmpty, Gives}
 
 -- At most 256 items and 1,024 rules.
 pub record Few (c : Counts) : Type 0 where
   pub items : c .items ≤ mostItems
   pub rules : c .rules ≤ mostRules
 
-pub record FewRead (n m : ℕ) : Type 0 where
-  pub items : n ≤ mostItems
-  pub rules : m ≤ mostRules
+pub record FewRead (h : Head) : Type 0 where
+  pub items : h .items ≤ mostItems
+  pub rules : h .rules ≤ mostRules
 
 abbrev pub AnswerFew : ReadBook → Type 0
-AnswerFew (ReadBook.Book n m) = FewRead n m
-AnswerFew (ReadBook.Refused f p) = Unit
+AnswerFew (ReadBook.Book h) = FewRead h
+AnswerFew (ReadBook.Refused r) = Unit
 
 -- A line that moves on is within the text, counts itself, and keeps to the sizes.
 pub record Went (st : State) (l : List ℕ) (next : State) (k : ℕ) : Type 0 where
@@ -135,8 +135,8 @@ read-says (suc f) st l few = go-says f st l (step st l) (step-says st l few) (λ
 pub start-few : Few (start .counts)
 start-few = record { items = omega arith; rules = omega arith }
 
-pub read-few : (l : List ℕ) (n m : ℕ) → readText l .answer ≡ ReadBook.Book n m → FewRead n m
-read-few l n m e = subst AnswerFew e (read-says (length l) start l start-few)
+pub read-few : (l : List ℕ) {h : Head} → readText l .answer ≡ ReadBook.Book h → FewRead h
+read-few l e = subst AnswerFew e (read-says (length l) start l start-few)
 
 -- Line after line: any bound on the length gives the same result.
 abbrev pub readAll : State → List ℕ → Result
@@ -201,9 +201,10 @@ reading-none {text} {names} {words} s = record {
 
 module _ {text names words : List ℕ} {c : Counts} {at : ℕ} (w : Reading text names words c at) (r : Stepped) (names′ words′ : List ℕ)
     (e : turnOf r names′ words′ ≡ step (stateOf c names words) (drop at text)) where
-  pub reading-stop : {a : ReadBook} → r ≡ Stepped.Stop a → resultIs a names′ words′ ≡ readText text
-  reading-stop f =
-      sym (w .rest ∙ read-step (stateOf c names words) (drop at text) (w .few) ∙ ap (goOn (λ next k. readAll next (drop k (drop at text)))) (sym e) ∙ rw f)
+  pub reading-stop : {a : ReadBook} → r ≡ Stepped.Stop a → Gives text a names′ words′
+  reading-stop f = record {
+    result = w .rest ∙ read-step (stateOf c names words) (drop at text) (w .few) ∙ ap (goOn (λ next k. readAll next (drop k (drop at text)))) (sym e) ∙ rw f;
+  }
 
   module _ {d : Counts} {k : ℕ} (f : r ≡ Stepped.On d k) where
     turn : on (stateOf d names′ words′) k ≡ step (stateOf c names words) (drop at text)
