@@ -11,20 +11,21 @@ use mir.Syntax.{w64}
 use mir.Val.{Fits}
 use borrow.Author.Tests.{lt-ltb, le-ltb, le-leb, lt-leb}
 use Rattle.laws.specs.Over.{over}
-use Rattle.refusals.specs.Sizes.{mostText, mostItems, mostRules}
+use Rattle.refusals.specs.Sizes.{mostText}
 use Rattle.refusals.specs.declared.Fault.{Fault}
 use Rattle.refusals.specs.declared.Refusal.{Refusal}
 use Rattle.items.specs.Names.{nameRoom}
 use Rattle.rules.specs.Table.{ruleWords, WordsPut}
 use Rattle.rules.specs.declared.Head.{Head}
 use Rattle.rules.proofs.Put.{put-told}
+use Rattle.accepts.specs.Tables.{Tables}
 use Rattle.puts.specs.Writing.{Put}
 use Rattle.puts.proofs.Placed.{put-buffer}
 use Rattle.reader.specs.declared.ReadBook.{ReadBook}
 use Rattle.reader.specs.Lines.{Result, refusedAt, emptyNames, emptyWords}
 use Rattle.reader.specs.Reading.{saidRead, readText, readAnswer, itemsAfter, rulesAfter, ReadSays}
 use Rattle.reader.specs.Inner.{StartsEmpty, Gives}
-use Rattle.reader.proofs.Whole.{FewRead, read-few}
+use Rattle.reader.proofs.ReadRight.{read-right}
 
 pub starts-empty : {text names words : List ℕ} → length text ≤ mostText → names ≡ emptyNames → words ≡ emptyWords → StartsEmpty text names words
 starts-empty h e f = record { text = h; names-empty = e; words-empty = f }
@@ -52,20 +53,20 @@ module _ {text : List ℕ} (short : length text ≤ mostText) {a : ReadBook} {na
       rw g (says text items rules (ReadBook.Refused f) items rules (rw (le-ltb mostText (length text) short, given, g)) refl refl)
 
   module _ {h : Head} (g : a ≡ ReadBook.Book h) where
-    few : FewRead h
-    few = read-few text (given ∙ g)
+    right : Tables h names words
+    right = rw (e .result) at (read-right text (given ∙ g))
 
     pub bytes-fit : Fits w64 (h .items * nameRoom)
-    bytes-fit = record { fits = omega (arith, few .items) }
+    bytes-fit = record { fits = omega (arith, right .items .size) }
 
     pub words-fit : Fits w64 (h .rules * ruleWords)
-    words-fit = record { fits = omega (arith, few .rules) }
+    words-fit = record { fits = omega (arith, right .rules .accepted .rules) }
 
-    pub bytes-within : length names ≡ mostItems * nameRoom → h .items * nameRoom ≤ length names
-    bytes-within s = omega (arith, few .items)
+    pub bytes-within : h .items * nameRoom ≤ length names
+    bytes-within = right .items .room
 
-    pub words-within : length words ≡ mostRules * ruleWords → h .rules * ruleWords ≤ length words
-    words-within s = omega (arith, few .rules)
+    pub words-within : h .rules * ruleWords ≤ length words
+    words-within = right .rules .room
 
     pub says-no-items : {items rules : List ℕ} {r : ReadBook} → length items < h .items * nameRoom → r ≡ refusedAt Fault.NoRoom 0
         → ReadSays text items rules (saidRead r) items rules
@@ -90,7 +91,7 @@ module _ {text : List ℕ} (short : length text ≤ mostText) {a : ReadBook} {na
             lt-leb (h .rules * ruleWords) (length rules) j,
           )) refl refl)
 
-      module _ (j : h .rules * ruleWords ≤ length rules) (m : length names ≡ mostItems * nameRoom) (o : length words ≡ mostRules * ruleWords) where
+      module _ (j : h .rules * ruleWords ≤ length rules) where
         pub says-book : {items′ : List ℕ} {q : ℕ} → Put items 0 (take (h .items * nameRoom - 0) (drop 0 names)) items′ q
             → {b : Bool} {rules′ : List ℕ} → WordsPut (take (h .rules * ruleWords - 0) (drop 0 words)) 0 rules b rules′
             → ReadSays text items rules (saidRead (ReadBook.Book h)) items′ rules′
@@ -113,7 +114,7 @@ module _ {text : List ℕ} (short : length text ≤ mostText) {a : ReadBook} {na
             size = omega arith
 
             put : items′ ≡ over items 0 (take (h .items * nameRoom) names)
-            put = put-buffer (rw whole at p) (omega (arith, i, length-take-le (h .items * nameRoom) names (bytes-within m)))
+            put = put-buffer (rw whole at p) (omega (arith, i, length-take-le (h .items * nameRoom) names bytes-within))
 
             placed : rules′ ≡ over rules 0 (take (h .rules * ruleWords) words)
-            placed = put-told (rw size at r) (omega (arith, j, length-take-le (h .rules * ruleWords) words (words-within o)))
+            placed = put-told (rw size at r) (omega (arith, j, length-take-le (h .rules * ruleWords) words words-within))

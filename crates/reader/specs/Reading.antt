@@ -41,6 +41,10 @@ fitted a b (ReadBook.Refused r) = ReadBook.Refused r
 unfoldable pub readAnswer : List ℕ → ℕ → ℕ → ReadBook
 readAnswer l a b = cond (ltb mostText (length l)) (refusedAt Fault.TooLong 0) (fitted a b (readText l .answer))
 
+-- What reading answers where the lent tables have room for every book: 1, then the lines.
+abbrev pub readWhole : List ℕ → ReadBook
+readWhole l = cond (ltb mostText (length l)) (refusedAt Fault.TooLong 0) (readText l .answer)
+
 -- "A success writes from the front .. and leaves the rest of the buffer"; "Every refusal leaves each lent buffer untouched."
 abbrev pub itemsAfter : ReadBook → List ℕ → List ℕ → List ℕ
 itemsAfter (ReadBook.Book h) read before = over before 0 (take (h .items * nameRoom) read)
