@@ -11,6 +11,7 @@ use Rattle.tokens.specs.Tokens.{nameAt}
 use Rattle.tokens.specs.declared.ReadName.{ReadName}
 use Rattle.lines.specs.declared.left.ReadLeft.{ReadLeft}
 
+-- A left side of so many names, of n bytes.
 abbrev pub leftFound : ℕ → ℕ → ReadLeft
 leftFound names n = ReadLeft.Found (record { names = names; len = n })
 

@@ -256,7 +256,7 @@ decimal-has n h = cases (decLt n 10) (decLt n 100) (decLt n 1000) (decLt n 10000
     cases (no a) (no b) (no c) (yes d) = has 4 (omega arith)
     cases (no a) (no b) (no c) (no d) = has countDigits (omega arith)
 
--- Any number has 1 to 5 of them: of one over 99,999 the last five are put.
+-- Any number has from 1 to those of a count: of a greater one so many, the last, are put.
 decimal-cases : (P : ℕ → Type 0) → P 1 → P 2 → P 3 → P 4 → P countDigits → (n : ℕ) → P (decimalLen n)
 unfolding decimalLen
 decimal-cases P p q r s t n = cases (ltb n 10) (ltb n 100) (ltb n 1000) (ltb n 10000)

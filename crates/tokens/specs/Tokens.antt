@@ -26,6 +26,7 @@ nameAt l = nameOfRun (runLen nameByte l)
 unfoldable pub leadingZero : List ℕ → ℕ → Bool
 leadingZero l n = ltb 1 n && eqb (byteAt l) digit0
 
+-- The number v, of n digits.
 abbrev pub countFound : ℕ → ℕ → ReadCount
 countFound v n = ReadCount.Found (record { value = v; len = n })
 
@@ -49,13 +50,14 @@ countText n = decimalOf n
 abbrev pub levelDigits : ℕ
 levelDigits = 2
 
--- "exactly sixteen lower-case hex digits", and how much stands behind the level with the slash.
+-- "exactly sixteen lower-case hex digits", and how many bytes stand behind the level, the slash among them.
 abbrev pub markDigits : ℕ
 markDigits = 16
 
 abbrev pub behindLevel : ℕ
 behindLevel = 1 + markDigits
 
+-- The class c, of n bytes.
 abbrev pub classFound : Class → ℕ → ReadClass
 classFound c n = ReadClass.Found (record { class = c; len = n })
 
