@@ -8,9 +8,10 @@ use native.Mathlib.Decide.{decLe}
 use native.Mathlib.Nat.{zero-add, add-zero}
 use native.Mathlib.Omega.{arith}
 use lib.ListN.{length, take, length-append}
+use lib.Seq.{length-take-le}
 use Rattle.laws.proofs.Over.{over-none, over-over, take-over}
 use Rattle.puts.specs.Writing.{Put}
-use Rattle.puts.specs.InnerGrowing.{Grown}
+use Rattle.puts.specs.InnerGrowing.{Grown, Front}
 use Rattle.puts.proofs.Placed.{put-buffer, put-next, put-full, put-sized}
 
 -- Nothing, and one piece.
@@ -44,12 +45,6 @@ pub grown-put : {d : List ℕ} {at : ℕ} {x d₁ : List ℕ} {r₁ : ℕ} {y d�
     → Grown d at (x ++ y) d₂ r₂
 grown-put p q = grown-grown p (put-grown q)
 
--- The text x stands at the front of the buffer d, and has r bytes.
-pub record Front (x d : List ℕ) (r : ℕ) : Type 0 where
-  pub within : r ≤ length d
-  pub len : r ≡ length x
-  pub text : take r d ≡ x
-
 -- A text from the front of a buffer on: it stands there, or has no room in the buffer.
 module _ {e x d : List ℕ} {r : ℕ} (g : Grown e 0 x d r) where
   pub front-there : 0 + length x ≤ length e → Front x d r
@@ -75,3 +70,7 @@ module _ {e x d : List ℕ} {r : ℕ} (g : Grown e 0 x d r) where
       over : Dec (0 + length x ≤ length e) → length e < length x
       over (yes room) = absurd (omega (arith, g .next room))
       over (no room) = omega arith
+
+-- A part of a buffer that is a text at its front is as long as that.
+pub front-counted : {x d : List ℕ} {r : ℕ} → Front x d r → r ≡ length (take r d)
+front-counted {d = d} {r = r} f = sym (length-take-le r d (f .within))
