@@ -11,8 +11,7 @@ use lib.Dec.{eqb}
 use lib.ListN.{drop}
 use borrow.Author.Tests.{eqb-true}
 use Rattle.classes.specs.Class.{lowest}
-use Rattle.scans.specs.Ascii as ascii
-use Rattle.scans.specs.Ascii.{plus, digit1}
+use Rattle.scans.specs.Ascii.{lf, plus, digit1, colon}
 use Rattle.scans.specs.Bytes.{byteAt}
 use Rattle.keys.specs.Keys.{keyAt}
 use Rattle.keys.specs.declared.Key.{Key}
@@ -74,7 +73,7 @@ pub record NameTail (l : List ℕ) (v : Value) : Type 0 where
 pub record RuleValue (kind : ℕ) (l : List ℕ) (v : Value) : Type 0 where
   pub known : kind ≤ 2
   pub left : LeftNames (v .names) l (v .left)
-  pub colon : byteAt (drop (v .left) l) ≡ ascii.colon
+  pub colon : byteAt (drop (v .left) l) ≡ colon
   pub single : kind ≡ 0 → v .names ≡ 1
   pub classed : kind < 2 → ClassTail l v
   pub named : kind ≡ 2 → NameTail l v
@@ -85,9 +84,9 @@ ValueSays P l (ReadValue.Found v) = P l v
 
 class-says : (kind names n : ℕ) (l : List ℕ) → kind < 2 → (kind ≡ 0 → names ≡ 1) → LeftNames names l n → ValueSays (RuleValue kind) l (withClass names n l)
 unfolding withClass
-class-says kind names n l h s left = colon (eqb (byteAt (drop n l)) ascii.colon) refl
+class-says kind names n l h s left = signed (eqb (byteAt (drop n l)) colon) refl
   where
-    behind : byteAt (drop n l) ≡ ascii.colon → (x : ReadClass) → classAt (drop (n + 1) l) ≡ x → ValueSays (RuleValue kind) l (classBehind names n x)
+    behind : byteAt (drop n l) ≡ colon → (x : ReadClass) → classAt (drop (n + 1) l) ≡ x → ValueSays (RuleValue kind) l (classBehind names n x)
     behind d ReadClass.Bad e = tt
     behind d (ReadClass.Found x) e = record {
       known = omega arith;
@@ -98,15 +97,15 @@ class-says kind names n l h s left = colon (eqb (byteAt (drop n l)) ascii.colon)
       named = λ z. absurd (omega arith);
     }
 
-    colon : (b : Bool) → eqb (byteAt (drop n l)) ascii.colon ≡ b → ValueSays (RuleValue kind) l (cond b (classBehind names n (classAt (drop (n + 1) l))) ReadValue.Bad)
-    colon true d = behind (eqb-true (byteAt (drop n l)) ascii.colon d) (classAt (drop (n + 1) l)) refl
-    colon false d = tt
+    signed : (b : Bool) → eqb (byteAt (drop n l)) colon ≡ b → ValueSays (RuleValue kind) l (cond b (classBehind names n (classAt (drop (n + 1) l))) ReadValue.Bad)
+    signed true d = behind (eqb-true (byteAt (drop n l)) colon d) (classAt (drop (n + 1) l)) refl
+    signed false d = tt
 
 right-says : (names n : ℕ) (l : List ℕ) → LeftNames names l n → ValueSays (RuleValue 2) l (withRight names n l)
 unfolding withRight
-right-says names n l left = colon (eqb (byteAt (drop n l)) ascii.colon) refl
+right-says names n l left = signed (eqb (byteAt (drop n l)) colon) refl
   where
-    behind : byteAt (drop n l) ≡ ascii.colon → (x : ReadName) → nameAt (drop (n + 1) l) ≡ x → ValueSays (RuleValue 2) l (rightBehind names n x)
+    behind : byteAt (drop n l) ≡ colon → (x : ReadName) → nameAt (drop (n + 1) l) ≡ x → ValueSays (RuleValue 2) l (rightBehind names n x)
     behind d ReadName.Bad e = tt
     behind d (ReadName.Found k) e = record {
       known = omega arith;
@@ -117,9 +116,9 @@ right-says names n l left = colon (eqb (byteAt (drop n l)) ascii.colon) refl
       named = λ z. record { name = e; size = refl; class = refl };
     }
 
-    colon : (b : Bool) → eqb (byteAt (drop n l)) ascii.colon ≡ b → ValueSays (RuleValue 2) l (cond b (rightBehind names n (nameAt (drop (n + 1) l))) ReadValue.Bad)
-    colon true d = behind (eqb-true (byteAt (drop n l)) ascii.colon d) (nameAt (drop (n + 1) l)) refl
-    colon false d = tt
+    signed : (b : Bool) → eqb (byteAt (drop n l)) colon ≡ b → ValueSays (RuleValue 2) l (cond b (rightBehind names n (nameAt (drop (n + 1) l))) ReadValue.Bad)
+    signed true d = behind (eqb-true (byteAt (drop n l)) colon d) (nameAt (drop (n + 1) l)) refl
+    signed false d = tt
 
 cap-says : (l : List ℕ) (x : ReadName) → nameAt l ≡ x → ValueSays (RuleValue 0) l (capOf l x)
 cap-says l ReadName.Bad e = tt
@@ -185,7 +184,7 @@ module _ (l : List ℕ) (v : Value) where
 pub record LineParts (l : List ℕ) (x : Line) : Type 0 where
   pub key : keyAt l ≡ ReadKey.Found (x .key) (x .from)
   pub value : valueAt (x .key) (drop (x .from) l) ≡ ReadValue.Found (x .value)
-  pub last : byteAt (drop (x .from + x .value .len) l) ≡ 10
+  pub last : byteAt (drop (x .from + x .value .len) l) ≡ lf
 
 abbrev PartsSay : List ℕ → ReadLine → Type 0
 PartsSay l ReadLine.Bad = Unit
@@ -193,11 +192,11 @@ PartsSay l (ReadLine.Found x) = LineParts l x
 
 ended-says : (l : List ℕ) (k : Key) (n : ℕ) (y : ReadValue) → keyAt l ≡ ReadKey.Found k n → valueAt k (drop n l) ≡ y → PartsSay l (ended l k n y)
 ended-says l k n ReadValue.Bad e f = tt
-ended-says l k n (ReadValue.Found v) e f = says (eqb (byteAt (drop (n + v .len) l)) 10) refl
+ended-says l k n (ReadValue.Found v) e f = says (eqb (byteAt (drop (n + v .len) l)) lf) refl
   where
-    says : (b : Bool) → eqb (byteAt (drop (n + v .len) l)) 10 ≡ b
+    says : (b : Bool) → eqb (byteAt (drop (n + v .len) l)) lf ≡ b
         → PartsSay l (cond b (ReadLine.Found (record { key = k; from = n; value = v })) ReadLine.Bad)
-    says true d = record { key = e; value = f; last = eqb-true (byteAt (drop (n + v .len) l)) 10 d }
+    says true d = record { key = e; value = f; last = eqb-true (byteAt (drop (n + v .len) l)) lf d }
     says false d = tt
 
 parts-say : (l : List ℕ) (y : ReadKey) → keyAt l ≡ y → PartsSay l (lineOf l y)
