@@ -53,7 +53,7 @@ fn label(
     }
     match solve(rules, head, levels, marks) {
         Solved::Labelled(_) => {
-            put(&names[..bytes], items, 0);
+            put(&names[0..bytes], items, 0);
             Assigned::Labelled(head)
         }
         Solved::Refused(refusal) => Assigned::Refused(refusal),
