@@ -11,7 +11,7 @@ use lib.ListN.{length, drop, length-drop, length-append}
 use lib.Seq.{drop-drop, drop-append-le}
 use Rattle.records.specs.Rows.{Record, whole, more, bad}
 use Rattle.exports.specs.Rows.{recordOf, Taken, stopped, onTop, taken}
-use Rattle.exports.specs.Text.{linesOf, Verdict, accepted, refused, Outcome, csvSyntax, strippedFrom}
+use Rattle.exports.specs.Text.{recordLines, Verdict, accepted, badRecord, Outcome, strippedFrom}
 use Rattle.exports.specs.Reading.{allOf, LastOnly, Run}
 use Rattle.exports.proofs.Fitting.{record-within, record-some, record-prefix, record-bad-prefix}
 use Rattle.exports.proofs.Taking.{taken-nothing, taken-whole, taken-more, taken-bad}
@@ -98,8 +98,8 @@ module _ (columns : ℕ) where
 -- What is written of what is taken, and what is said, from the record of this number on.
 outcome : List Bool → ℕ → Taken → Outcome
 outcome kept number t = record {
-  text = linesOf kept (t .rows);
-  verdict = cond (t .faulty) (refused csvSyntax (number + length (t .rows))) accepted;
+  text = recordLines kept (t .rows);
+  verdict = cond (t .faulty) (badRecord (number + length (t .rows))) accepted;
 }
 
 -- An export is stripped to what is written of all that is taken from it.
@@ -109,11 +109,11 @@ stripped-outcome kept number l = refl
 
 -- Rows that are written first come first in the text, and count.
 outcome-past : (kept : List Bool) (number : ℕ) (rows : List (List (List ℕ))) (at : ℕ) (t : Taken) → outcome kept number (past rows at t) ≡
-    record { text = linesOf kept rows ++ outcome kept (number + length rows) t .text; verdict = outcome kept (number + length rows) t .verdict }
+    record { text = recordLines kept rows ++ outcome kept (number + length rows) t .text; verdict = outcome kept (number + length rows) t .verdict }
 unfolding outcome
 outcome-past kept number rows at t = λ i. record {
   text = lines-append kept rows (t .rows) i;
-  verdict = cond (t .faulty) (refused csvSyntax (count i)) accepted;
+  verdict = cond (t .faulty) (badRecord (count i)) accepted;
 }
   where
     count : number + length (rows ++ t .rows) ≡ number + length rows + length (t .rows)
@@ -121,11 +121,11 @@ outcome-past kept number rows at t = λ i. record {
 
 -- Where no row is taken nothing is written.
 outcome-none : (kept : List Bool) (number : ℕ) (t : Taken) (faulty : Bool) → t .rows ≡ [] → t .faulty ≡ faulty
-    → outcome kept number t ≡ record { text = []; verdict = cond faulty (refused csvSyntax number) accepted }
-unfolding outcome linesOf
+    → outcome kept number t ≡ record { text = []; verdict = cond faulty (badRecord number) accepted }
+unfolding outcome recordLines
 outcome-none kept number t faulty e q = λ i. record {
-  text = ap (linesOf kept) e i;
-  verdict = cond (q i) (refused csvSyntax (count i)) accepted;
+  text = ap (recordLines kept) e i;
+  verdict = cond (q i) (badRecord (count i)) accepted;
 }
   where
     count : number + length (t .rows) ≡ number
@@ -141,19 +141,19 @@ module _ (kept : List Bool) (number : ℕ) where
   after-writing : (held b : List ℕ) (last : Bool) → Lastly last b → {text : List ℕ} {v : Verdict} →
       strippedFrom kept (number + length (taken last (length kept) held .rows)) (drop (taken last (length kept) held .used) held ++ b)
       ≡ record { text = text; verdict = v } →
-      strippedFrom kept number (held ++ b) ≡ record { text = linesOf kept (taken last (length kept) held .rows) ++ text; verdict = v }
+      strippedFrom kept number (held ++ b) ≡ record { text = recordLines kept (taken last (length kept) held .rows) ++ text; verdict = v }
   after-writing held b last z e =
       let t = taken last (length kept) held in
       let rest = drop (t .used) held ++ b in
       stripped-outcome kept number (held ++ b)
       ∙ ap (outcome kept number) (ahead (length kept) last held b z .on)
       ∙ outcome-past kept number (t .rows) (t .used) (taken true (length kept) rest)
-      ∙ ap (λ o. record { text = linesOf kept (t .rows) ++ o .text; verdict = o .verdict })
+      ∙ ap (λ o. record { text = recordLines kept (t .rows) ++ o .text; verdict = o .verdict })
       (sym (stripped-outcome kept (number + length (t .rows)) rest) ∙ e)
 
   after-refusing : (held b : List ℕ) (last : Bool) → Lastly last b → taken last (length kept) held .rows ≡ []
       → taken last (length kept) held .faulty ≡ true
-      → strippedFrom kept number (held ++ b) ≡ record { text = []; verdict = refused csvSyntax number }
+      → strippedFrom kept number (held ++ b) ≡ record { text = []; verdict = badRecord number }
   after-refusing held b last z e q =
       stripped-outcome kept number (held ++ b)
       ∙ ap (outcome kept number) (ahead (length kept) last held b z .faulty q)

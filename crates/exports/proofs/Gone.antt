@@ -11,9 +11,17 @@ use lib.ListN.{length, drop, length-drop, drop-of-length-le}
 use lib.Seq.{drop-drop}
 use Rattle.records.specs.Rows.{whole, more, bad}
 use Rattle.exports.specs.Rows.{recordOf, Taken, stopped, onTop, taken}
-use Rattle.exports.specs.Inner.{Gone}
 use Rattle.exports.proofs.Fitting.{record-within}
 use Rattle.exports.proofs.Taking.{taken-nothing, taken-whole, taken-more, taken-bad}
+
+-- Taking records from the front of l has come to the place `at`, past these rows.
+pub record Gone (last : Bool) (columns : ℕ) (l : List ℕ) (rows : List (List (List ℕ))) (at : ℕ) : Type 0 where
+  pub rest : taken last columns l ≡ record {
+    rows = rows ++ taken last columns (drop at l) .rows;
+    used = at + taken last columns (drop at l) .used;
+    faulty = taken last columns (drop at l) .faulty;
+  }
+  pub within : at ≤ length l
 
 -- Rows that are taken before others.
 abbrev pub past : List (List (List ℕ)) → ℕ → Taken → Taken

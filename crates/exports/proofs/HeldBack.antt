@@ -7,9 +7,10 @@ use mathlib.Core.List.{List, [], _∷_, _++_}
 use Prim.Native.Nat.{ℕ, zero, suc, _<_}
 use native.Mathlib.Omega.{arith}
 use lib.ListN.{length, getD, drop}
+use Rattle.scans.specs.Ascii.{cr, lf}
 use Rattle.records.specs.Rows.{Record, whole, more, bad, recordAt}
 use Rattle.exports.specs.Rows.{recordOf, takeOn, takenFrom, taken}
-use Rattle.exports.specs.Text.{keptOf, joined, linesOf, strippedFrom, HeldBackApart}
+use Rattle.exports.specs.Text.{keptOf, withCommas, recordLines, strippedFrom, HeldBackApart}
 use Rattle.exports.proofs.Fitting.{fitted}
 
 -- Each row has so many fields: of no row, of one more, of one less.
@@ -62,12 +63,12 @@ kept-same (false ∷ ks) (f ∷ x) (g ∷ y) p q same = kept-same ks x y (omega 
 
 -- Exports that differ only in columns held back have the same lines.
 pub lines-same : (kept : List Bool) (a b : List (List (List ℕ))) → Even (length kept) a → Even (length kept) b → HeldBackApart kept a b
-    → linesOf kept a ≡ linesOf kept b
-unfolding linesOf
+    → recordLines kept a ≡ recordLines kept b
+unfolding recordLines
 lines-same kept [] [] p q s = refl
 lines-same kept [] (y ∷ b) p q s = absurd (omega arith)
 lines-same kept (x ∷ a) [] p q s = absurd (omega arith)
-lines-same kept (x ∷ a) (y ∷ b) p q s = ap₂ (λ f r. joined f ++ (13 ∷ 10 ∷ []) ++ r)
+lines-same kept (x ∷ a) (y ∷ b) p q s = ap₂ (λ f r. withCommas f ++ (cr ∷ lf ∷ []) ++ r)
     (kept-same kept x y (p .each 0 (omega arith)) (q .each 0 (omega arith)) (λ c. s .same 0 c (omega arith)))
     (lines-same kept a b (even-rest x a p) (even-rest y b q) (record { count = omega arith; same = λ r c h. s .same (suc r) c (omega arith) }))
 

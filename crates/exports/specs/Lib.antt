@@ -3,4 +3,3 @@ pub mod Names
 pub mod Rows
 pub mod Text
 pub mod Reading
-pub mod Inner

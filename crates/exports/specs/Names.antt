@@ -33,13 +33,13 @@ abbrev pub columnItem : List ℕ → ℕ → List (List ℕ) → ℕ → Found
 columnItem t n fs c = findIn t n (nameIn fs c)
 
 -- A name that is an item.
-pub record Known (t : List ℕ) (n : ℕ) (name : List ℕ) : Type 0 where
+pub record IsItem (t : List ℕ) (n : ℕ) (name : List ℕ) : Type 0 where
   pub item : ℕ
   pub found : findIn t n name ≡ Found.At item
 
 -- "a header name, quotes taken off, that is no item or is repeated" is bad: each name is an item, and none is repeated.
 pub record HeaderOk (t : List ℕ) (n : ℕ) (fs : List (List ℕ)) : Type 0 where
-  pub known : (c : ℕ) → c < length fs → Known t n (nameIn fs c)
+  pub known : (c : ℕ) → c < length fs → IsItem t n (nameIn fs c)
   pub distinct : (c d : ℕ) → c < d → d < length fs → nameIn fs c ≡ nameIn fs d → ⊥
 
 -- "only the columns whose label that class covers" are kept.

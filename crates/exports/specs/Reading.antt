@@ -6,7 +6,7 @@ use mathlib.Core.List.{List, [], _∷_, _++_}
 use Prim.Native.Nat.{ℕ, _+_}
 use lib.ListN.{length, drop}
 use Rattle.exports.specs.Rows.{taken}
-use Rattle.exports.specs.Text.{linesOf, Verdict, accepted, refused, csvSyntax}
+use Rattle.exports.specs.Text.{recordLines, Verdict, accepted, badRecord}
 
 -- All pieces, one behind the other.
 unfoldable pub allOf : List (List ℕ) → List ℕ
@@ -24,9 +24,9 @@ pub data Run (kept : List Bool) : ℕ → List ℕ → List (List ℕ) → List 
       Run kept number (held ++ piece) pieces text v → Run kept number held (piece ∷ pieces) text v
   writes : {number : ℕ} {held : List ℕ} {pieces : List (List ℕ)} {text : List ℕ} {v : Verdict} (last : Bool) → LastOnly last pieces →
       Run kept (number + length (taken last (length kept) held .rows)) (drop (taken last (length kept) held .used) held) pieces text v →
-      Run kept number held pieces (linesOf kept (taken last (length kept) held .rows) ++ text) v
+      Run kept number held pieces (recordLines kept (taken last (length kept) held .rows) ++ text) v
   refuses : {number : ℕ} {held : List ℕ} {pieces : List (List ℕ)} (last : Bool) → LastOnly last pieces →
       taken last (length kept) held .rows ≡ [] → taken last (length kept) held .faulty ≡ true →
-      Run kept number held pieces [] (refused csvSyntax number)
+      Run kept number held pieces [] (badRecord number)
   done : {number : ℕ} {held : List ℕ} →
       taken true (length kept) held .rows ≡ [] → taken true (length kept) held .faulty ≡ false → Run kept number held [] [] accepted

@@ -6,6 +6,8 @@ use mathlib.Core.List.{List, [], _∷_, _++_}
 use Prim.Native.Nat.{ℕ, _+_, _<_}
 use lib.ListN.{length, getD}
 use Rattle.scans.specs.Ascii.{comma, cr, lf}
+use Rattle.refusals.specs.declared.Fault.{Fault}
+use Rattle.refusals.specs.declared.Refusal.{Refusal}
 use Rattle.exports.specs.Rows.{taken}
 
 -- Of each record the columns that are kept, in order.
@@ -19,22 +21,22 @@ unfoldable pub commaed : List (List ℕ) → List ℕ
 commaed [] = []
 commaed (f ∷ fs) = comma ∷ f ++ commaed fs
 
-unfoldable pub joined : List (List ℕ) → List ℕ
-joined [] = []
-joined (f ∷ fs) = f ++ commaed fs
+unfoldable pub withCommas : List (List ℕ) → List ℕ
+withCommas [] = []
+withCommas (f ∷ fs) = f ++ commaed fs
 
 -- "Each record written ends with CRLF (alone, where no column is kept)."
-abbrev pub lineOf : List Bool → List (List ℕ) → List ℕ
-lineOf kept fs = joined (keptOf kept fs) ++ cr ∷ lf ∷ []
+abbrev pub recordLine : List Bool → List (List ℕ) → List ℕ
+recordLine kept fs = withCommas (keptOf kept fs) ++ cr ∷ lf ∷ []
 
-unfoldable pub linesOf : List Bool → List (List (List ℕ)) → List ℕ
-linesOf kept [] = []
-linesOf kept (fs ∷ rows) = lineOf kept fs ++ linesOf kept rows
+unfoldable pub recordLines : List Bool → List (List (List ℕ)) → List ℕ
+recordLines kept [] = []
+recordLines kept (fs ∷ rows) = recordLine kept fs ++ recordLines kept rows
 
--- What is said of an export: it is accepted, or it is refused with a number and a place.
+-- What is said of an export: it is accepted, or it is refused.
 pub data Verdict : Type 0 where
   accepted : Verdict
-  refused : ℕ → ℕ → Verdict
+  refused : Refusal → Verdict
 
 -- What is written, and what is said.
 pub record Outcome : Type 0 where
@@ -42,19 +44,15 @@ pub record Outcome : Type 0 where
   pub verdict : Verdict
 
 -- "16 CSV_SYNTAX at the record".
-abbrev pub csvSyntax : ℕ
-csvSyntax = 16
-
--- "17 CSV_HEADER, place 1".
-abbrev pub csvHeader : ℕ
-csvHeader = 17
+abbrev pub badRecord : ℕ → Verdict
+badRecord number = refused (record { fault = Fault.CsvSyntax; place = number })
 
 -- The records of an export from the record of this number on, stripped to the columns that are kept. "A bad record stops the run, none of it
 -- written"; "records before it stand".
 unfoldable pub strippedFrom : List Bool → ℕ → List ℕ → Outcome
 strippedFrom kept number l = record {
-  text = linesOf kept (taken true (length kept) l .rows);
-  verdict = cond (taken true (length kept) l .faulty) (refused csvSyntax (number + length (taken true (length kept) l .rows))) accepted;
+  text = recordLines kept (taken true (length kept) l .rows);
+  verdict = cond (taken true (length kept) l .faulty) (badRecord (number + length (taken true (length kept) l .rows))) accepted;
 }
 
 -- Two exports "differ only in columns held back": they have the same columns kept and as many records, and in each record the same bytes, quotes

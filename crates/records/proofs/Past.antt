@@ -8,6 +8,7 @@ use Prim.Native.Nat.{ℕ, _+_, _-_, _≤_, _<_}
 use native.Mathlib.Nat.{le-refl, add-assoc}
 use native.Mathlib.Omega.{arith}
 use lib.ListN.{length, getD, drop}
+use Rattle.scans.specs.Ascii.{quote}
 use Rattle.scans.specs.Bytes.{byteAt}
 use Rattle.scans.proofs.Places.{byte-in, byte-inside}
 use Rattle.records.specs.Fields.{plainByte, longerBy, behind, Where, plain, quoted, scan, fieldAt}
@@ -71,7 +72,7 @@ module _ {l : List ℕ} {at i : ℕ} (p : Past plain l at i) where
 -- Between quotes, from byte to byte.
 module _ {l : List ℕ} {at i : ℕ} (p : Past quoted l at i) where
   -- What is passed is the run, if a quote stands at i or the text ends there.
-  quoted-run : (i < length l → getD l i 0 ≡ 34) → QuotedRun l at (i - at)
+  quoted-run : (i < length l → getD l i 0 ≡ quote) → QuotedRun l at (i - at)
   quoted-run e = record {
     scans = p .rest ∙ ap (λ (k : ℕ). longerBy (i - at) (scan quoted (drop k l))) sum;
     within = omega (arith, p .order, p .within);
@@ -82,10 +83,10 @@ module _ {l : List ℕ} {at i : ℕ} (p : Past quoted l at i) where
       sum = omega (arith, p .order)
 
   -- Another byte than a quote stands at i; a quote does; the text ends.
-  pub past-quoted-on : i < length l → (getD l i 0 ≡ 34 → ⊥) → Past quoted l at (i + 1)
+  pub past-quoted-on : i < length l → (getD l i 0 ≡ quote → ⊥) → Past quoted l at (i + 1)
   past-quoted-on h e = past-on p 1 (omega arith) (quoted-on l i h e)
 
-  pub past-quoted-stop : getD l i 0 ≡ 34 → QuotedRun l at (i - at)
+  pub past-quoted-stop : getD l i 0 ≡ quote → QuotedRun l at (i - at)
   past-quoted-stop e = quoted-run (λ h. e)
 
   pub past-quoted-end : length l ≤ i → QuotedRun l at (i - at)
@@ -105,7 +106,7 @@ module _ {l : List ℕ} {at i : ℕ} (p : Past quoted l at i) where
 -- Between quotes, from quote to quote: the quote behind a run is doubled; or it closes the field.
 module _ {l : List ℕ} {at i r : ℕ} (p : Past quoted l at i) (q : QuotedRun l i r) (h : i + r < length l)
     {b : ℕ} (f : b ≡ byteAt (drop (i + r + 1) l)) where
-  pub past-doubled : b ≡ 34 → Past quoted l at (i + r + 2)
+  pub past-doubled : b ≡ quote → Past quoted l at (i + r + 2)
   past-doubled g = past-on (past-run p q) 2 (omega (arith, inside)) both
     where
       inside : i + r + 1 < length l
@@ -121,7 +122,7 @@ module _ {l : List ℕ} {at i r : ℕ} (p : Past quoted l at i) (q : QuotedRun l
           ∙ longer-longer 1 1 (scan quoted (drop (i + r + 1 + 1) l))
           ∙ ap (λ (k : ℕ). longerBy 2 (scan quoted (drop k l))) sum
 
-  pub past-closing : (b ≡ 34 → ⊥) → Closing l at (i + r + 1 - at)
+  pub past-closing : (b ≡ quote → ⊥) → Closing l at (i + r + 1 - at)
   past-closing g = record {
     none = λ z. absurd (omega (arith, p .order));
     some =
@@ -142,11 +143,11 @@ module _ (l : List ℕ) (at : ℕ) where
   read-end h = sym (start-end l at h)
 
   module _ (h : at < length l) where
-    pub read-plain : (getD l at 0 ≡ 34 → ⊥) → {n : ℕ} → PlainRun l at n → {r : Field} → r ≡ longerBy n (behind (drop (at + n) l))
+    pub read-plain : (getD l at 0 ≡ quote → ⊥) → {n : ℕ} → PlainRun l at n → {r : Field} → r ≡ longerBy n (behind (drop (at + n) l))
         → r ≡ fieldAt (drop at l)
     read-plain e p f = f ∙ sym (start-other l at h e ∙ p .scans)
 
-    module _ (e : getD l at 0 ≡ 34) {n : ℕ} (p : Closing l (at + 1) n) where
+    module _ (e : getD l at 0 ≡ quote) {n : ℕ} (p : Closing l (at + 1) n) where
       pub read-open : n ≡ 0 → Field.Open ≡ fieldAt (drop at l)
       read-open z = sym (start-quote l at h e ∙ ap (longerBy 1) (p .none z))
 

@@ -6,15 +6,15 @@ use mathlib.Core.Bool.{Bool, true, false, cond}
 use mathlib.Core.List.{List, [], _∷_, _++_}
 use Prim.Native.Nat.{ℕ, zero, suc, _+_, _≤_}
 use native.Mathlib.Omega.{arith}
-use lib.Dec.{eqb, ltb}
+use lib.Dec.{eqb}
 use lib.ListN.{length, take, drop, length-drop, length-append}
 use lib.Seq.{take-append-le, drop-append-le}
 use borrow.Author.Tests.{lt-leb, le-ltb, ltb-false}
 use Rattle.records.specs.Fields.{plainByte, longerBy, afterCr, behind}
 use Rattle.scans.specs.Ascii.{comma, quote, cr, lf}
 use Rattle.records.specs.Fields.{Where, start, plain, quoted, closed, scan, fieldAt}
-use Rattle.records.specs.Rows.{Row, line, ends, cut, broken, before, rowFrom, rowOf}
-use Rattle.records.specs.Rows.{whole, more, bad, judged, recordAt, mostBytes}
+use Rattle.records.specs.Rows.{Row, line, bare, cut, broken, fieldBefore, rowFrom, rowOf}
+use Rattle.records.specs.Rows.{whole, more, bad, mostBytes, lineEnd, mayGoOn, judged, recordAt}
 use Rattle.records.specs.declared.Field.{Field}
 use Rattle.records.proofs.Within.{comma-within, line-within}
 
@@ -123,33 +123,33 @@ module _ (w : Where) (a b : List ℕ) where
 -- The same of rows.
 abbrev RowReaches : ℕ → Row → Type 0
 RowReaches k (line fs n) = k ≤ n + 1
-RowReaches k (ends fs n) = k ≤ n + 1
+RowReaches k (bare fs n) = k ≤ n + 1
 RowReaches k cut = Unit {0}
 RowReaches k broken = Unit {0}
 
 abbrev RowGoes : ℕ → Row → Row → Type 0
 RowGoes k (line fs n) r = r ≡ line fs n
-RowGoes k (ends fs n) r = RowReaches k r
+RowGoes k (bare fs n) r = RowReaches k r
 RowGoes k cut r = RowReaches k r
 RowGoes k broken r = r ≡ broken
 
 -- A field and a comma more before a row.
-before-reaches : (k j n : ℕ) (f : List ℕ) → k ≤ n + 1 + j → (r : Row) → RowReaches j r → RowReaches k (before f n r)
+before-reaches : (k j n : ℕ) (f : List ℕ) → k ≤ n + 1 + j → (r : Row) → RowReaches j r → RowReaches k (fieldBefore f n r)
 before-reaches k j n f e (line fs m) h = omega arith
-before-reaches k j n f e (ends fs m) h = omega arith
+before-reaches k j n f e (bare fs m) h = omega arith
 before-reaches k j n f e cut h = tt
 before-reaches k j n f e broken h = tt
 
-before-goes : (k j n : ℕ) (f : List ℕ) → k ≤ n + 1 + j → (r s : Row) → RowGoes j r s → RowGoes k (before f n r) (before f n s)
-before-goes k j n f e (line fs m) s h = ap (before f n) h
-before-goes k j n f e (ends fs m) s h = before-reaches k j n f e s h
+before-goes : (k j n : ℕ) (f : List ℕ) → k ≤ n + 1 + j → (r s : Row) → RowGoes j r s → RowGoes k (fieldBefore f n r) (fieldBefore f n s)
+before-goes k j n f e (line fs m) s h = ap (fieldBefore f n) h
+before-goes k j n f e (bare fs m) s h = before-reaches k j n f e s h
 before-goes k j n f e cut s h = before-reaches k j n f e s h
-before-goes k j n f e broken s h = ap (before f n) h
+before-goes k j n f e broken s h = ap (fieldBefore f n) h
 
 -- Every row is that long where k is 0.
 row-reaches-none : (r : Row) → RowReaches 0 r
 row-reaches-none (line fs n) = omega arith
-row-reaches-none (ends fs n) = omega arith
+row-reaches-none (bare fs n) = omega arith
 row-reaches-none cut = tt
 row-reaches-none broken = tt
 
@@ -193,23 +193,23 @@ whole-stays last most a b {fs} {k} e = by (rowOf most a) (rowOf most (a ++ b)) (
 
     by : (r s : Row) → RowGoes (length a) r s → judged false (length a) r ≡ whole fs k → judged last (length (a ++ b)) s ≡ whole fs k
     by (line gs n) s g h = ap (judged last (length (a ++ b))) g ∙ h
-    by (ends gs n) s g h = absurd (never (ltb (length a) (mostBytes + 2)) h)
-    by cut s g h = absurd (never (ltb (length a) (mostBytes + 2)) h)
+    by (bare gs n) s g h = absurd (never (mayGoOn (length a)) h)
+    by cut s g h = absurd (never (mayGoOn (length a)) h)
     by broken s g h = absurd (never false h)
 
 -- A row that is longer than a record may be, with its line end still to come, is no record.
-long-bad : (last : Bool) (n : ℕ) (r : Row) → 4098 ≤ n → RowReaches 4098 r → judged last n r ≡ bad
-long-bad last n (line fs k) h g = rw (lt-leb k 4096 (omega arith))
-long-bad true n (ends fs k) h g = rw (lt-leb k 4096 (omega arith))
-long-bad false n (ends fs k) h g = rw (le-ltb n 4098 h)
+long-bad : (last : Bool) (n : ℕ) (r : Row) → mostBytes + lineEnd ≤ n → RowReaches (mostBytes + lineEnd) r → judged last n r ≡ bad
+long-bad last n (line fs k) h g = rw (lt-leb k mostBytes (omega arith))
+long-bad true n (bare fs k) h g = rw (lt-leb k mostBytes (omega arith))
+long-bad false n (bare fs k) h g = rw (le-ltb n (mostBytes + lineEnd) h)
 long-bad true n cut h g = refl
-long-bad false n cut h g = rw (le-ltb n 4098 h)
+long-bad false n cut h g = rw (le-ltb n (mostBytes + lineEnd) h)
 long-bad last n broken h g = refl
 
 -- What is no shorter than k bytes is no shorter than fewer.
 reaches-less : (j k : ℕ) (r : Row) → j ≤ k → RowReaches k r → RowReaches j r
 reaches-less j k (line fs n) h g = omega arith
-reaches-less j k (ends fs n) h g = omega arith
+reaches-less j k (bare fs n) h g = omega arith
 reaches-less j k cut h g = tt
 reaches-less j k broken h g = tt
 
@@ -218,17 +218,17 @@ pub none-stays : (last : Bool) (most : ℕ) (a b : List ℕ) → recordAt false 
 unfolding recordAt
 none-stays last most a b e = by (rowOf most a) (rowOf most (a ++ b)) (row-goes most a b) e
   where
-    enough : (t : Bool) → ltb (length a) 4098 ≡ t → cond t more bad ≡ bad → 4098 ≤ length a
+    enough : (t : Bool) → mayGoOn (length a) ≡ t → cond t more bad ≡ bad → mostBytes + lineEnd ≤ length a
     enough true d h = let z : _≡_ {A = ℕ} 0 1 = cc in absurd (omega arith)
-    enough false d h = ltb-false (length a) 4098 d
+    enough false d h = ltb-false (length a) (mostBytes + lineEnd) d
 
-    long : (s : Row) → RowReaches (length a) s → cond (ltb (length a) 4098) more bad ≡ bad → judged last (length (a ++ b)) s ≡ bad
+    long : (s : Row) → RowReaches (length a) s → cond (mayGoOn (length a)) more bad ≡ bad → judged last (length (a ++ b)) s ≡ bad
     long s g h =
-        let big = enough (ltb (length a) 4098) refl h in
-        long-bad last (length (a ++ b)) s (omega (arith, big, length-append a b)) (reaches-less 4098 (length a) s big g)
+        let big = enough (mayGoOn (length a)) refl h in
+        long-bad last (length (a ++ b)) s (omega (arith, big, length-append a b)) (reaches-less (mostBytes + lineEnd) (length a) s big g)
 
     by : (r s : Row) → RowGoes (length a) r s → judged false (length a) r ≡ bad → judged last (length (a ++ b)) s ≡ bad
     by (line gs n) s g h = ap (judged last (length (a ++ b))) g ∙ h
-    by (ends gs n) s g h = long s g h
+    by (bare gs n) s g h = long s g h
     by cut s g h = long s g h
     by broken s g h = ap (judged last (length (a ++ b))) g

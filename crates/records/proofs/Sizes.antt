@@ -5,28 +5,29 @@ use mathlib.Core.Path.{_≡_}
 use mathlib.Core.Bool.{Bool, true, false}
 use Prim.Native.Nat.{ℕ, _+_, _≤_, _<_}
 use borrow.Author.Tests.{lt-ltb, le-ltb, le-leb, lt-leb}
-use Rattle.records.specs.Rows.{closedSize, unfinishedSize, endedBy}
+use Rattle.records.specs.Rows.{mostBytes, lineEnd}
+use Rattle.records.specs.Inner.{closedSize, unfinishedSize, endedBy}
 use Rattle.records.specs.declared.Field.{Field}
 use Rattle.records.specs.declared.Size.{Size}
 
 -- A record of k bytes before its line end is too long; or it is not.
 module _ (c k e : ℕ) where
-  pub size-long : 4096 < k → Size.Bad ≡ closedSize c k e
-  size-long h = rw (lt-leb k 4096 h)
+  pub size-long : mostBytes < k → Size.Bad ≡ closedSize c k e
+  size-long h = rw (lt-leb k mostBytes h)
 
-  pub size-whole : k ≤ 4096 → Size.Whole c (k + e) ≡ closedSize c k e
-  size-whole h = rw (le-leb k 4096 h)
+  pub size-whole : k ≤ mostBytes → Size.Whole (record { fields = c; bytes = k + e }) ≡ closedSize c k e
+  size-whole h = rw (le-leb k mostBytes h)
 
 -- A text of n bytes is too short for a record's longest form; or it is not.
-pub size-more : (n : ℕ) → n < 4098 → Size.More ≡ unfinishedSize n
-size-more n h = rw (lt-ltb n 4098 h)
+pub size-more : (n : ℕ) → n < mostBytes + lineEnd → Size.More ≡ unfinishedSize n
+size-more n h = rw (lt-ltb n (mostBytes + lineEnd) h)
 
-pub size-enough : (n : ℕ) → 4098 ≤ n → Size.Bad ≡ unfinishedSize n
-size-enough n h = rw (le-ltb n 4098 h)
+pub size-enough : (n : ℕ) → mostBytes + lineEnd ≤ n → Size.Bad ≡ unfinishedSize n
+size-enough n h = rw (le-ltb n (mostBytes + lineEnd) h)
 
 -- A record by its last field.
 module _ (last : Bool) (n c k : ℕ) {found : Field} where
-  pub ended-line : {m : ℕ} {r : Size} → found ≡ Field.Line m → r ≡ closedSize c (k + m) 2 → r ≡ endedBy last n c k found
+  pub ended-line : {m : ℕ} {r : Size} → found ≡ Field.Line m → r ≡ closedSize c (k + m) lineEnd → r ≡ endedBy last n c k found
   ended-line e f = rw e f
 
   pub ended-end : {m : ℕ} {r : Size} → found ≡ Field.End m → last ≡ true → r ≡ closedSize c (k + m) 0 → r ≡ endedBy last n c k found

@@ -9,6 +9,7 @@ use native.Mathlib.Nat.{add-zero, add-assoc, zero-add}
 use native.Mathlib.Omega.{arith}
 use lib.ListN.{length, getD, drop, drop-of-length-le}
 use borrow.Author.Tests.{eq-eqb, ne-eqb}
+use Rattle.scans.specs.Ascii.{comma, quote, cr, lf}
 use Rattle.scans.specs.Bytes.{byteAt}
 use Rattle.scans.proofs.Places.{drop-step}
 use Rattle.records.specs.Fields.{plainByte, longerBy, afterCr, behind}
@@ -32,25 +33,25 @@ longer-none Field.Open = refl
 longer-none Field.Bad = refl
 
 -- Each of the four bytes is not plain, and any other byte is.
-pub plain-comma : {b : ℕ} → b ≡ 44 → false ≡ plainByte b
+pub plain-comma : {b : ℕ} → b ≡ comma → false ≡ plainByte b
 unfolding plainByte
-plain-comma {b} e = rw (eq-eqb b 44 e)
+plain-comma {b} e = rw (eq-eqb b comma e)
 
-pub plain-quote : {b : ℕ} → b ≡ 34 → false ≡ plainByte b
+pub plain-quote : {b : ℕ} → b ≡ quote → false ≡ plainByte b
 unfolding plainByte
-plain-quote {b} e = rw (ne-eqb b 44 (λ z. omega arith), eq-eqb b 34 e)
+plain-quote {b} e = rw (ne-eqb b comma (λ z. omega arith), eq-eqb b quote e)
 
-pub plain-cr : {b : ℕ} → b ≡ 13 → false ≡ plainByte b
+pub plain-cr : {b : ℕ} → b ≡ cr → false ≡ plainByte b
 unfolding plainByte
-plain-cr {b} e = rw (ne-eqb b 44 (λ z. omega arith), ne-eqb b 34 (λ z. omega arith), eq-eqb b 13 e)
+plain-cr {b} e = rw (ne-eqb b comma (λ z. omega arith), ne-eqb b quote (λ z. omega arith), eq-eqb b cr e)
 
-pub plain-lf : {b : ℕ} → b ≡ 10 → false ≡ plainByte b
+pub plain-lf : {b : ℕ} → b ≡ lf → false ≡ plainByte b
 unfolding plainByte
-plain-lf {b} e = rw (ne-eqb b 44 (λ z. omega arith), ne-eqb b 34 (λ z. omega arith), ne-eqb b 13 (λ z. omega arith), eq-eqb b 10 e)
+plain-lf {b} e = rw (ne-eqb b comma (λ z. omega arith), ne-eqb b quote (λ z. omega arith), ne-eqb b cr (λ z. omega arith), eq-eqb b lf e)
 
-pub plain-other : {b : ℕ} → (b ≡ 44 → ⊥) → (b ≡ 34 → ⊥) → (b ≡ 13 → ⊥) → (b ≡ 10 → ⊥) → true ≡ plainByte b
+pub plain-other : {b : ℕ} → (b ≡ comma → ⊥) → (b ≡ quote → ⊥) → (b ≡ cr → ⊥) → (b ≡ lf → ⊥) → true ≡ plainByte b
 unfolding plainByte
-plain-other {b} h i j k = rw (ne-eqb b 44 h, ne-eqb b 34 i, ne-eqb b 13 j, ne-eqb b 10 k)
+plain-other {b} h i j k = rw (ne-eqb b comma h, ne-eqb b quote i, ne-eqb b cr j, ne-eqb b lf k)
 
 -- Behind a field at a place: nothing, a comma, another byte, a CR at the end, a CRLF, a CR with another byte behind it.
 module _ (l : List ℕ) (i : ℕ) where
@@ -59,35 +60,35 @@ module _ (l : List ℕ) (i : ℕ) where
   behind-none h = rw (drop-of-length-le l h)
 
   module _ (h : i < length l) where
-    pub behind-comma : getD l i 0 ≡ 44 → behind (drop i l) ≡ Field.Comma 0
+    pub behind-comma : getD l i 0 ≡ comma → behind (drop i l) ≡ Field.Comma 0
     unfolding behind
-    behind-comma e = rw (drop-step l i h, eq-eqb (getD l i 0) 44 e)
+    behind-comma e = rw (drop-step l i h, eq-eqb (getD l i 0) comma e)
 
-    pub behind-other : (getD l i 0 ≡ 44 → ⊥) → (getD l i 0 ≡ 13 → ⊥) → behind (drop i l) ≡ Field.Bad
+    pub behind-other : (getD l i 0 ≡ comma → ⊥) → (getD l i 0 ≡ cr → ⊥) → behind (drop i l) ≡ Field.Bad
     unfolding behind
-    behind-other e f = rw (drop-step l i h, ne-eqb (getD l i 0) 44 e, ne-eqb (getD l i 0) 13 f)
+    behind-other e f = rw (drop-step l i h, ne-eqb (getD l i 0) comma e, ne-eqb (getD l i 0) cr f)
 
-    pub behind-cr : getD l i 0 ≡ 13 → behind (drop i l) ≡ afterCr (drop (i + 1) l)
+    pub behind-cr : getD l i 0 ≡ cr → behind (drop i l) ≡ afterCr (drop (i + 1) l)
     unfolding behind
-    behind-cr e = rw (drop-step l i h, ne-eqb (getD l i 0) 44 (λ z. omega arith), eq-eqb (getD l i 0) 13 e)
+    behind-cr e = rw (drop-step l i h, ne-eqb (getD l i 0) comma (λ z. omega arith), eq-eqb (getD l i 0) cr e)
 
   pub cr-none : length l ≤ i → afterCr (drop i l) ≡ Field.Open
   unfolding afterCr
   cr-none h = rw (drop-of-length-le l h)
 
-  pub cr-lf : i < length l → getD l i 0 ≡ 10 → afterCr (drop i l) ≡ Field.Line 0
+  pub cr-lf : i < length l → getD l i 0 ≡ lf → afterCr (drop i l) ≡ Field.Line 0
   unfolding afterCr
-  cr-lf h e = rw (drop-step l i h, eq-eqb (getD l i 0) 10 e)
+  cr-lf h e = rw (drop-step l i h, eq-eqb (getD l i 0) lf e)
 
-  pub cr-other : i < length l → (getD l i 0 ≡ 10 → ⊥) → afterCr (drop i l) ≡ Field.Bad
+  pub cr-other : i < length l → (getD l i 0 ≡ lf → ⊥) → afterCr (drop i l) ≡ Field.Bad
   unfolding afterCr
-  cr-other h e = rw (drop-step l i h, ne-eqb (getD l i 0) 10 e)
+  cr-other h e = rw (drop-step l i h, ne-eqb (getD l i 0) lf e)
 
 -- Behind a closing quote stands what stands behind the field.
-pub closed-shut : (l : List ℕ) → (byteAt l ≡ 34 → ⊥) → scan closed l ≡ behind l
+pub closed-shut : (l : List ℕ) → (byteAt l ≡ quote → ⊥) → scan closed l ≡ behind l
 unfolding scan
 closed-shut [] e = refl
-closed-shut (b ∷ l) e = rw (ne-eqb b 34 e)
+closed-shut (b ∷ l) e = rw (ne-eqb b quote e)
 
 -- The machine at a place: a byte of a field without quotes, and the end of one.
 module _ (l : List ℕ) (i : ℕ) where
@@ -110,25 +111,25 @@ module _ (l : List ℕ) (i : ℕ) where
   quoted-end h = rw (drop-of-length-le l h)
 
   module _ (h : i < length l) where
-    pub quoted-on : (getD l i 0 ≡ 34 → ⊥) → scan quoted (drop i l) ≡ longerBy 1 (scan quoted (drop (i + 1) l))
+    pub quoted-on : (getD l i 0 ≡ quote → ⊥) → scan quoted (drop i l) ≡ longerBy 1 (scan quoted (drop (i + 1) l))
     unfolding scan
-    quoted-on e = rw (drop-step l i h, ne-eqb (getD l i 0) 34 e)
+    quoted-on e = rw (drop-step l i h, ne-eqb (getD l i 0) quote e)
 
-    pub quoted-quote : getD l i 0 ≡ 34 → scan quoted (drop i l) ≡ longerBy 1 (scan closed (drop (i + 1) l))
+    pub quoted-quote : getD l i 0 ≡ quote → scan quoted (drop i l) ≡ longerBy 1 (scan closed (drop (i + 1) l))
     unfolding scan
-    quoted-quote e = rw (drop-step l i h, eq-eqb (getD l i 0) 34 e)
+    quoted-quote e = rw (drop-step l i h, eq-eqb (getD l i 0) quote e)
 
-    pub closed-quote : getD l i 0 ≡ 34 → scan closed (drop i l) ≡ longerBy 1 (scan quoted (drop (i + 1) l))
+    pub closed-quote : getD l i 0 ≡ quote → scan closed (drop i l) ≡ longerBy 1 (scan quoted (drop (i + 1) l))
     unfolding scan
-    closed-quote e = rw (drop-step l i h, eq-eqb (getD l i 0) 34 e)
+    closed-quote e = rw (drop-step l i h, eq-eqb (getD l i 0) quote e)
 
-    pub start-quote : getD l i 0 ≡ 34 → fieldAt (drop i l) ≡ longerBy 1 (scan quoted (drop (i + 1) l))
+    pub start-quote : getD l i 0 ≡ quote → fieldAt (drop i l) ≡ longerBy 1 (scan quoted (drop (i + 1) l))
     unfolding scan
-    start-quote e = rw (drop-step l i h, eq-eqb (getD l i 0) 34 e)
+    start-quote e = rw (drop-step l i h, eq-eqb (getD l i 0) quote e)
 
-    pub start-other : (getD l i 0 ≡ 34 → ⊥) → fieldAt (drop i l) ≡ scan plain (drop i l)
+    pub start-other : (getD l i 0 ≡ quote → ⊥) → fieldAt (drop i l) ≡ scan plain (drop i l)
     unfolding scan
-    start-other e = rw (drop-step l i h, ne-eqb (getD l i 0) 34 e)
+    start-other e = rw (drop-step l i h, ne-eqb (getD l i 0) quote e)
 
   pub start-end : length l ≤ i → fieldAt (drop i l) ≡ Field.End 0
   unfolding scan behind
@@ -139,19 +140,19 @@ module _ (l : List ℕ) (at len : ℕ) where
   pub found-end : length l ≤ at + len → Field.End len ≡ longerBy len (behind (drop (at + len) l))
   found-end h = rw (behind-none l (at + len) h, add-zero len)
 
-  pub found-comma : at + len < length l → getD l (at + len) 0 ≡ 44 → Field.Comma len ≡ longerBy len (behind (drop (at + len) l))
+  pub found-comma : at + len < length l → getD l (at + len) 0 ≡ comma → Field.Comma len ≡ longerBy len (behind (drop (at + len) l))
   found-comma h e = rw (behind-comma l (at + len) h e, add-zero len)
 
-  pub found-bad : at + len < length l → (getD l (at + len) 0 ≡ 44 → ⊥) → (getD l (at + len) 0 ≡ 13 → ⊥)
+  pub found-bad : at + len < length l → (getD l (at + len) 0 ≡ comma → ⊥) → (getD l (at + len) 0 ≡ cr → ⊥)
       → Field.Bad ≡ longerBy len (behind (drop (at + len) l))
   found-bad h e f = rw (behind-other l (at + len) h e f)
 
-  module _ (h : at + len < length l) (e : getD l (at + len) 0 ≡ 13) where
+  module _ (h : at + len < length l) (e : getD l (at + len) 0 ≡ cr) where
     pub found-open : length l ≤ at + len + 1 → Field.Open ≡ longerBy len (behind (drop (at + len) l))
     found-open g = rw (behind-cr l (at + len) h e, cr-none l (at + len + 1) g)
 
-    pub found-line : at + len + 1 < length l → getD l (at + len + 1) 0 ≡ 10 → Field.Line len ≡ longerBy len (behind (drop (at + len) l))
+    pub found-line : at + len + 1 < length l → getD l (at + len + 1) 0 ≡ lf → Field.Line len ≡ longerBy len (behind (drop (at + len) l))
     found-line g f = rw (behind-cr l (at + len) h e, cr-lf l (at + len + 1) g f, add-zero len)
 
-    pub found-cr : at + len + 1 < length l → (getD l (at + len + 1) 0 ≡ 10 → ⊥) → Field.Bad ≡ longerBy len (behind (drop (at + len) l))
+    pub found-cr : at + len + 1 < length l → (getD l (at + len + 1) 0 ≡ lf → ⊥) → Field.Bad ≡ longerBy len (behind (drop (at + len) l))
     found-cr g f = rw (behind-cr l (at + len) h e, cr-other l (at + len + 1) g f)

@@ -6,31 +6,30 @@ use mathlib.Core.Bool.{Bool, true, false, cond}
 use mathlib.Core.List.{List}
 use Prim.Native.Nat.{ℕ, zero, suc, _+_, _≤_, _<_}
 use native.Mathlib.Omega.{arith}
-use lib.Dec.{leb, ltb}
 use lib.ListN.{length, take, drop, length-drop}
 use borrow.Author.Tests.{ltb-true}
 use Rattle.records.specs.Fields.{fieldAt}
-use Rattle.records.specs.Rows.{Row, line, ends, cut, broken, before, rowFrom, rowOf}
-use Rattle.records.specs.Rows.{Record, whole, more, bad, judged, recordAt, mostBytes}
+use Rattle.records.specs.Rows.{Row, line, bare, cut, broken, fieldBefore, rowFrom, rowOf}
+use Rattle.records.specs.Rows.{Record, whole, more, bad, mostBytes, lineEnd, fewBytes, mayGoOn, judged, recordAt}
 use Rattle.records.specs.declared.Field.{Field}
 use Rattle.records.proofs.Within.{comma-within, line-within, end-within}
 
 -- A row has a field, and lies within the text.
-abbrev RowLies : ℕ → Row → Type 0
+abbrev pub RowLies : ℕ → Row → Type 0
 RowLies size (line fs n) = (n + 2 ≤ size) × (1 ≤ length fs)
-RowLies size (ends fs n) = (n ≡ size) × (1 ≤ length fs)
+RowLies size (bare fs n) = (n ≡ size) × (1 ≤ length fs)
 RowLies size cut = Unit {0}
 RowLies size broken = Unit {0}
 
 -- A field and a comma more before a row.
-before-lies : (f : List ℕ) (n size rest : ℕ) → n + 1 + rest ≡ size → (r : Row) → RowLies rest r → RowLies size (before f n r)
+before-lies : (f : List ℕ) (n size rest : ℕ) → n + 1 + rest ≡ size → (r : Row) → RowLies rest r → RowLies size (fieldBefore f n r)
 before-lies f n size rest e (line fs m) h = (omega (arith, h .0), omega arith)
-before-lies f n size rest e (ends fs m) h = (omega (arith, h .0), omega arith)
+before-lies f n size rest e (bare fs m) h = (omega (arith, h .0), omega arith)
 before-lies f n size rest e cut h = tt
 before-lies f n size rest e broken h = tt
 
 -- The row at the front of a text lies within it.
-row-lies : (most : ℕ) (l : List ℕ) → RowLies (length l) (rowOf most l)
+pub row-lies : (most : ℕ) (l : List ℕ) → RowLies (length l) (rowOf most l)
 unfolding rowOf
 row-lies zero l = tt
 row-lies (suc most) l = by (fieldAt l) refl (λ n. row-lies most (drop (n + 1) l))
@@ -54,7 +53,7 @@ pub record WholeHere (l : List ℕ) (fs : List (List ℕ)) (k : ℕ) : Type 0 wh
 -- What a record says of the text.
 abbrev Says : List ℕ → Record → Type 0
 Says l (whole fs k) = WholeHere l fs k
-Says l more = length l < mostBytes + 2
+Says l more = length l < mostBytes + lineEnd
 Says l bad = Unit {0}
 
 -- What a test of the length chooses.
@@ -62,19 +61,19 @@ says-closed : (t : Bool) (l : List ℕ) (fs : List (List ℕ)) (k : ℕ) → Who
 says-closed true l fs k h = h
 says-closed false l fs k h = tt
 
-says-unfinished : (t : Bool) (l : List ℕ) → ltb (length l) (mostBytes + 2) ≡ t → Says l (cond t more bad)
-says-unfinished true l e = ltb-true (length l) (mostBytes + 2) e
+says-unfinished : (t : Bool) (l : List ℕ) → mayGoOn (length l) ≡ t → Says l (cond t more bad)
+says-unfinished true l e = ltb-true (length l) (mostBytes + lineEnd) e
 says-unfinished false l e = tt
 
 -- What a row says, it says as a record.
 judged-says : (last : Bool) (l : List ℕ) (r : Row) → RowLies (length l) r → Says l (judged last (length l) r)
 judged-says last l (line fs k) h =
-    says-closed (leb k mostBytes) l fs (k + 2) (record { within = h .0; some = λ i. omega arith; fields = h .1 })
-judged-says true l (ends fs k) h =
-    says-closed (leb k mostBytes) l fs (k + 0) (record { within = omega (arith, h .0); some = λ i. omega (arith, h .0); fields = h .1 })
-judged-says false l (ends fs k) h = says-unfinished (ltb (length l) (mostBytes + 2)) l refl
+    says-closed (fewBytes k) l fs (k + lineEnd) (record { within = h .0; some = λ i. omega arith; fields = h .1 })
+judged-says true l (bare fs k) h =
+    says-closed (fewBytes k) l fs (k + 0) (record { within = omega (arith, h .0); some = λ i. omega (arith, h .0); fields = h .1 })
+judged-says false l (bare fs k) h = says-unfinished (mayGoOn (length l)) l refl
 judged-says true l cut h = tt
-judged-says false l cut h = says-unfinished (ltb (length l) (mostBytes + 2)) l refl
+judged-says false l cut h = says-unfinished (mayGoOn (length l)) l refl
 judged-says last l broken h = tt
 
 -- A record that is whole is there.
@@ -83,6 +82,6 @@ unfolding recordAt
 whole-here last most l e = subst (Says l) e (judged-says last l (rowOf most l) (row-lies most l))
 
 -- A text that ends before its record does is short.
-pub more-short : (last : Bool) (most : ℕ) (l : List ℕ) → recordAt last most l ≡ more → length l < mostBytes + 2
+pub more-short : (last : Bool) (most : ℕ) (l : List ℕ) → recordAt last most l ≡ more → length l < mostBytes + lineEnd
 unfolding recordAt
 more-short last most l e = subst (Says l) e (judged-says last l (rowOf most l) (row-lies most l))

@@ -9,7 +9,7 @@ use lib.Dec.{eqb}
 use lib.ListN.{length}
 use Rattle.records.specs.Fields.{plainByte, longerBy, afterCr, behind}
 use Rattle.scans.specs.Ascii.{comma, quote, cr, lf}
-use Rattle.records.specs.Fields.{Where, start, plain, quoted, closed, scan, fieldAt}
+use Rattle.records.specs.Fields.{Where, start, plain, quoted, closed, scan, fieldAt, fieldLen}
 use Rattle.records.specs.declared.Field.{Field}
 
 -- What a field says of the text that it stands in.
@@ -71,3 +71,14 @@ module _ (l : List ℕ) {n : ℕ} where
 
   pub end-within : fieldAt l ≡ Field.End n → n ≡ length l
   end-within e = subst (Lies l) e (scan-lies start l)
+
+-- A field has no more bytes than the text.
+pub len-within : (l : List ℕ) → fieldLen (fieldAt l) ≤ length l
+len-within l = by (fieldAt l) refl
+  where
+    by : (f : Field) → fieldAt l ≡ f → fieldLen f ≤ length l
+    by (Field.Comma n) e = omega (arith, comma-within l e)
+    by (Field.Line n) e = omega (arith, line-within l e)
+    by (Field.End n) e = omega (arith, end-within l e)
+    by Field.Open e = omega arith
+    by Field.Bad e = omega arith

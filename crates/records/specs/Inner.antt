@@ -1,13 +1,15 @@
--- What the inner functions and the loops of `records` give.
+-- What the inner functions of `records` give, and the fields of a record by where they end, of which the crates above speak in their inner contracts.
 -- Assumes nothing.
 use mathlib.Core.Path.{_≡_}
-use mathlib.Core.List.{List, _++_}
-use Prim.Native.Nat.{ℕ, _+_, _≤_, _<_}
+use mathlib.Core.Bool.{Bool, cond}
+use mathlib.Core.List.{List, [], _∷_, _++_}
+use Prim.Native.Nat.{ℕ, zero, suc, _+_, _≤_, _<_}
 use lib.ListN.{length, getD, drop}
-use Rattle.records.specs.Fields.{plain, quoted, scan, behind, longerBy}
+use Rattle.records.specs.Fields.{partOf, plain, quoted, scan, behind, longerBy, fieldAt, fieldLen}
 use Rattle.scans.specs.Ascii.{quote}
-use Rattle.records.specs.Rows.{Row, line, ends, cut, broken, rowOf}
+use Rattle.records.specs.Rows.{lineEnd, fewBytes, mayGoOn}
 use Rattle.records.specs.declared.Field.{Field}
+use Rattle.records.specs.declared.Size.{Size}
 
 -- r bytes from a place on stand in a field without quotes, which ends behind them.
 pub record PlainRun (l : List ℕ) (at r : ℕ) : Type 0 where
@@ -26,15 +28,36 @@ pub record Closing (l : List ℕ) (at r : ℕ) : Type 0 where
   pub some : 1 ≤ r → scan quoted (drop at l) ≡ longerBy r (behind (drop (at + r) l))
   pub within : at + r ≤ length l
 
--- The row of which these fields, k bytes with their commas, stand before this one.
-abbrev pub onto : List (List ℕ) → ℕ → Row → Row
-onto fs k (line gs n) = line (fs ++ gs) (k + n)
-onto fs k (ends gs n) = ends (fs ++ gs) (k + n)
-onto fs k cut = cut
-onto fs k broken = broken
+-- The size by counts alone: of a record of c fields and k bytes with a line end of e bytes, and of one that does not end in a text of n bytes.
+abbrev pub closedSize : ℕ → ℕ → ℕ → Size
+closedSize c k e = cond (fewBytes k) (Size.Whole (record { fields = c; bytes = k + e })) Size.Bad
 
--- Reading the row at the front of l has come to the place k, past the fields fs; `left` more may stand there.
-pub record Come (most : ℕ) (l : List ℕ) (fs : List (List ℕ)) (k left : ℕ) : Type 0 where
-  pub row : rowOf most l ≡ onto fs k (rowOf left (drop k l))
-  pub count : length fs + left ≡ most
-  pub within : k ≤ length l
+abbrev pub unfinishedSize : ℕ → Size
+unfinishedSize n = cond (mayGoOn n) Size.More Size.Bad
+
+-- The size of a record whose last field is this one: of c fields, with k bytes before it, in a text that has n bytes from the record on.
+abbrev pub endedBy : Bool → ℕ → ℕ → ℕ → Field → Size
+endedBy last n c k (Field.Line m) = closedSize c (k + m) lineEnd
+endedBy last n c k (Field.End m) = cond last (closedSize c (k + m) 0) (unfinishedSize n)
+endedBy last n c k Field.Open = cond last Size.Bad (unfinishedSize n)
+endedBy last n c k (Field.Comma m) = Size.Bad
+endedBy last n c k Field.Bad = Size.Bad
+
+-- Where field c starts of a record at a place, whose fields end at these places: behind the comma of the field before it.
+abbrev pub startAt : ℕ → List ℕ → ℕ → ℕ
+startAt at ends zero = at
+startAt at ends (suc c) = getD ends c 0 + 1
+
+-- The field at one place of l ends at another place.
+pub record FieldSpan (l : List ℕ) (from to : ℕ) : Type 0 where
+  pub start : from ≤ length l
+  pub end : to ≡ from + fieldLen (fieldAt (drop from l))
+
+-- So does each of the first n fields of a record at a place, whose fields end at these places.
+pub record FieldSpans (l : List ℕ) (at : ℕ) (ends : List ℕ) (n : ℕ) : Type 0 where
+  pub each : (c : ℕ) → c < n → FieldSpan l (startAt at ends c) (getD ends c 0)
+
+-- These fields.
+unfoldable pub fieldsTo : List ℕ → ℕ → List ℕ → ℕ → List (List ℕ)
+fieldsTo l at ends zero = []
+fieldsTo l at ends (suc c) = fieldsTo l at ends c ++ partOf l (startAt at ends c) (getD ends c 0) ∷ []

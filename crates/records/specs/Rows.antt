@@ -1,11 +1,13 @@
--- The record at the front of a text: its fields, and whether it is whole, unfinished or none.
+-- The record at the front of a text: its fields, and whether it is whole, unfinished or none; and where its fields end.
 -- Assumes nothing.
+use mathlib.Core.Path.{_≡_}
 use mathlib.Core.Bool.{Bool, cond}
 use mathlib.Core.List.{List, [], _∷_}
-use Prim.Native.Nat.{ℕ, zero, suc, _+_}
+use Prim.Native.Nat.{ℕ, zero, suc, _+_, min}
 use lib.Dec.{ltb, leb}
 use lib.ListN.{length, take, drop}
-use Rattle.records.specs.Fields.{fieldAt}
+use Rattle.laws.specs.Over.{over}
+use Rattle.records.specs.Fields.{fieldAt, fieldLen}
 use Rattle.records.specs.declared.Field.{Field}
 use Rattle.records.specs.declared.Size.{Size}
 
@@ -16,26 +18,30 @@ mostBytes = 4096
 abbrev pub mostFields : ℕ
 mostFields = 256
 
+-- The bytes of a CRLF.
+abbrev pub lineEnd : ℕ
+lineEnd = 2
+
 -- Fields with commas between them: their bytes, quotes kept, and how many bytes they are together. A CRLF stands behind the last field, or
 -- nothing; or the text ends within a field; or it is no row.
 pub data Row : Type 0 where
   line : List (List ℕ) → ℕ → Row
-  ends : List (List ℕ) → ℕ → Row
+  bare : List (List ℕ) → ℕ → Row
   cut : Row
   broken : Row
 
 -- A field and a comma before a row.
-abbrev pub before : List ℕ → ℕ → Row → Row
-before f n (line fs k) = line (f ∷ fs) (n + 1 + k)
-before f n (ends fs k) = ends (f ∷ fs) (n + 1 + k)
-before f n cut = cut
-before f n broken = broken
+abbrev pub fieldBefore : List ℕ → ℕ → Row → Row
+fieldBefore f n (line fs k) = line (f ∷ fs) (n + 1 + k)
+fieldBefore f n (bare fs k) = bare (f ∷ fs) (n + 1 + k)
+fieldBefore f n cut = cut
+fieldBefore f n broken = broken
 
 -- The row of which the first field is this one.
 abbrev pub rowFrom : (List ℕ → Row) → List ℕ → Field → Row
-rowFrom rest l (Field.Comma n) = before (take n l) n (rest (drop (n + 1) l))
+rowFrom rest l (Field.Comma n) = fieldBefore (take n l) n (rest (drop (n + 1) l))
 rowFrom rest l (Field.Line n) = line (take n l ∷ []) n
-rowFrom rest l (Field.End n) = ends (take n l ∷ []) n
+rowFrom rest l (Field.End n) = bare (take n l ∷ []) n
 rowFrom rest l Field.Open = cut
 rowFrom rest l Field.Bad = broken
 
@@ -57,7 +63,7 @@ fewBytes k = leb k mostBytes
 -- A record that does not end in a text of n bytes may still do so in a longer one. With 4,098 bytes, of which the last may be the CR, it is too
 -- long already.
 abbrev pub mayGoOn : ℕ → Bool
-mayGoOn n = ltb n (mostBytes + 2)
+mayGoOn n = ltb n (mostBytes + lineEnd)
 
 -- A row of k bytes with a line end of e bytes behind it.
 abbrev pub closedBy : List (List ℕ) → ℕ → ℕ → Record
@@ -70,8 +76,8 @@ unfinished n = cond (mayGoOn n) more bad
 -- What the row at the front of a text of n bytes is as a record. Behind the last text there is nothing: "the last record may have none", no
 -- line end.
 abbrev pub judged : Bool → ℕ → Row → Record
-judged last n (line fs k) = closedBy fs k 2
-judged last n (ends fs k) = cond last (closedBy fs k 0) (unfinished n)
+judged last n (line fs k) = closedBy fs k lineEnd
+judged last n (bare fs k) = cond last (closedBy fs k 0) (unfinished n)
 judged last n cut = cond last bad (unfinished n)
 judged last n broken = bad
 
@@ -81,21 +87,26 @@ recordAt last most l = judged last (length l) (rowOf most l)
 
 -- Its number of fields and of bytes.
 abbrev pub sizeOf : Record → Size
-sizeOf (whole fs k) = Size.Whole (length fs) k
+sizeOf (whole fs k) = Size.Whole (record { fields = length fs; bytes = k })
 sizeOf more = Size.More
 sizeOf bad = Size.Bad
 
--- The same by counts alone: of a record of c fields and k bytes with a line end of e bytes, and of one that does not end in a text of n bytes.
-abbrev pub closedSize : ℕ → ℕ → ℕ → Size
-closedSize c k e = cond (fewBytes k) (Size.Whole c (k + e)) Size.Bad
+-- Where the fields end that stand behind this one, if a comma follows it.
+abbrev pub endsBehind : (ℕ → List ℕ → List ℕ) → ℕ → List ℕ → Field → List ℕ
+endsBehind rest at l (Field.Comma n) = rest (at + n + 1) (drop (n + 1) l)
+endsBehind rest at l (Field.Line n) = []
+endsBehind rest at l (Field.End n) = []
+endsBehind rest at l Field.Open = []
+endsBehind rest at l Field.Bad = []
 
-abbrev pub unfinishedSize : ℕ → Size
-unfinishedSize n = cond (mayGoOn n) Size.More Size.Bad
+-- Where the fields end of the row at a place, at which l is left of the text: at most so many of them, and up to one with no comma behind it. What is no field
+-- has no bytes, and so ends where it starts.
+unfoldable pub endsOf : ℕ → ℕ → List ℕ → List ℕ
+endsOf zero at l = []
+endsOf (suc most) at l = (at + fieldLen (fieldAt l)) ∷ endsBehind (endsOf most) at l (fieldAt l)
 
--- The size of a record whose last field is this one: of c fields, with k bytes before it, in a text that has n bytes from the record on.
-abbrev pub endedBy : Bool → ℕ → ℕ → ℕ → Field → Size
-endedBy last n c k (Field.Line m) = closedSize c (k + m) 2
-endedBy last n c k (Field.End m) = cond last (closedSize c (k + m) 0) (unfinishedSize n)
-endedBy last n c k Field.Open = cond last Size.Bad (unfinishedSize n)
-endedBy last n c k (Field.Comma m) = Size.Bad
-endedBy last n c k Field.Bad = Size.Bad
+-- The promise of `read_row`: the size of the record at a place of l, with at most so many fields, and no more than the buffer has room for; from its front on the
+-- buffer holds where the fields end, and the rest of it is as it was.
+pub record RowSays (l : List ℕ) (at : ℕ) (last : Bool) (most : ℕ) (ends : List ℕ) (s : Size) (ends′ : List ℕ) : Type 0 where
+  pub size : s ≡ sizeOf (recordAt last (min most (length ends)) (drop at l))
+  pub ends-after : ends′ ≡ over ends 0 (endsOf (min most (length ends)) at (drop at l))

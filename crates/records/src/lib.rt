@@ -1,13 +1,17 @@
-// The records of an RFC 4180 text: one field at a place, and the record at the front of a text.
+// The records of an RFC 4180 text: one field at a place, the record at a place with where its fields end, and a field as a part of the text.
 //
 // Every function takes any place and any bytes. Past a text's end there is nothing.
+use scans::COMMA;
+use scans::CR;
+use scans::LF;
+use scans::QUOTE;
 use scans::byte_at;
 ghost use mathlib.Core.Path.{_≡_};
-ghost use Prim.Native.Nat.{_+_, _≤_};
+ghost use Prim.Native.Nat.{_+_, _-_, _≤_, min};
 ghost use lib.ListN.{length, drop};
-ghost use Rattle.records.specs.Fields.{plainByte, behind, longerBy, fieldAt, fieldLen};
-ghost use Rattle.records.specs.Rows.{sizeOf, recordAt, mostFields, closedSize, unfinishedSize, endedBy};
-ghost use Rattle.records.specs.Inner.{PlainRun, QuotedRun, Closing};
+ghost use Rattle.records.specs.Fields.{partOf, plainByte, behind, longerBy, fieldAt, fieldLen};
+ghost use Rattle.records.specs.Rows.{lineEnd, RowSays};
+ghost use Rattle.records.specs.Inner.{PlainRun, QuotedRun, Closing, closedSize, unfinishedSize, endedBy};
 
 // The most bytes of a record before its line end.
 pub const MOST_BYTES: usize = 4096;
@@ -15,10 +19,8 @@ pub const MOST_BYTES: usize = 4096;
 // The most fields of a record.
 pub const MOST_FIELDS: usize = 256;
 
-// The numbers of refusal for a bad record and for a bad header.
-pub const CSV_SYNTAX: u64 = 16;
-
-pub const CSV_HEADER: u64 = 17;
+// The bytes of a line end, a CRLF.
+pub const LINE_END: usize = 2;
 
 // What stands behind a field, and the field's bytes, its quotes among them: a comma; a CRLF; nothing. Open where the text ends between the
 // field's quotes or after the CR of its CRLF; Bad where it is no field of RFC 4180 with one of these behind it.
@@ -30,9 +32,15 @@ pub enum Field {
     Bad,
 }
 
-// A record's number of fields and of bytes, with its line end; More where the text ends before it does; Bad where it is none.
+// How many fields a record has, and how many bytes with its line end.
+pub struct Extent {
+    pub fields: usize,
+    pub bytes: usize,
+}
+
+// What stands where a record should: a whole one; More where the text ends before it does; Bad where it is none.
 pub enum Size {
-    Whole(usize, usize),
+    Whole(Extent),
     More,
     Bad,
 }
@@ -44,7 +52,7 @@ pub fn read_field(text: &[u8], at: usize) -> Field
     if text.len() <= at {
         return Field::End(0);
     }
-    if text[at] != b'"' {
+    if text[at] != QUOTE {
         return behind_field(text, at, plain_run(text, at));
     }
     let len = closing(text, at + 1);
@@ -67,30 +75,60 @@ pub fn field_len(found: Field) -> usize
     }
 }
 
-// The size of the record at the front of a text. Nothing follows the text if it is the last one.
-pub fn first_record(text: &[u8], last: bool) -> Size
-    ensures { λ r. ⌜ r ≡ sizeOf (recordAt last mostFields (now (text .entry))) ⌝ }
+// The record at a place, with at most so many fields, and no more than `ends` has room for. Nothing follows the text if it is the last one. From its
+// front on, `ends` then holds where each field ends that was read, up to one with no comma behind it; what is no field ends where it starts.
+pub fn read_row(text: &[u8], at: usize, last: bool, most: usize, ends: &mut [usize]) -> Size
+    ensures { λ r. ⌜ RowSays (now (text .entry)) at last most (now (ends .entry)) r (now (ends .exit)) ⌝ }
 {
-    let mut at = 0;
-    let mut fields = 0;
-    while fields < MOST_FIELDS {
-        let found = read_field(text, at);
-        let Field::Comma(len) = found else {
-            return ended(found, last, text.len(), fields + 1, at);
+    let room = lesser(most, ends.len());
+    let mut i = at;
+    let mut c = 0;
+    while c < room {
+        let found = read_field(text, i);
+        let end = i + field_len(found);
+        ends[c] = end;
+        let Field::Comma(_) = found else {
+            return ended(found, last, left(text, at), c + 1, i - at);
         };
-        at = at + len + 1;
-        fields += 1;
+        i = end + 1;
+        c += 1;
     }
     Size::Bad
 }
 
-// The size of a record whose last field is this one: of how many fields it is, and how many bytes stand before it. The text has `left` bytes
-// from the record on.
-pub fn ended(found: Field, last: bool, left: usize, fields: usize, before: usize) -> Size
+// The bytes from one place of a text up to another, as a part of it: a field, from where it starts to where it ends. Past the text's end there are none.
+pub fn part(text: &[u8], from: usize, to: usize) -> &[u8]
+    ensures { λ r. ⌜ now r ≡ partOf (now (text .entry)) from to ⌝ }
+{
+    let end = lesser(to, text.len());
+    let start = lesser(from, end);
+    &text[start..end]
+}
+
+// The lesser of two numbers.
+fn lesser(a: usize, b: usize) -> usize
+    ensures { λ r. ⌜ r ≡ min a b ⌝ }
+{
+    if a < b { a } else { b }
+}
+
+// How many bytes there are from a place on.
+fn left(text: &[u8], at: usize) -> usize
+    ensures { λ r. ⌜ r ≡ length (now (text .entry)) - at ⌝ }
+{
+    if text.len() < at {
+        return 0;
+    }
+    text.len() - at
+}
+
+// The size of a record whose last field is this one: of how many fields it is, and how many bytes stand before that one. The text has `left`
+// bytes from the record on.
+fn ended(found: Field, last: bool, left: usize, fields: usize, before: usize) -> Size
     ensures { λ r. ⌜ r ≡ endedBy last left fields before found ⌝ }
 {
     match found {
-        Field::Line(len) => closed(fields, before, len, 2),
+        Field::Line(len) => closed(fields, before, len, LINE_END),
         Field::End(len) => if last {
             closed(fields, before, len, 0)
         } else {
@@ -104,7 +142,7 @@ pub fn ended(found: Field, last: bool, left: usize, fields: usize, before: usize
 
 // The size of a record with a line end of so many bytes behind its last field.
 fn closed(fields: usize, before: usize, len: usize, end: usize) -> Size
-    requires { ⌜ end ≤ 2 ⌝ }
+    requires { ⌜ end ≤ lineEnd ⌝ }
     ensures { λ r. ⌜ r ≡ closedSize fields (before + len) end ⌝ }
 {
     if MOST_BYTES < before {
@@ -113,14 +151,17 @@ fn closed(fields: usize, before: usize, len: usize, end: usize) -> Size
     if MOST_BYTES - before < len {
         return Size::Bad;
     }
-    Size::Whole(fields, before + len + end)
+    Size::Whole(Extent {
+        fields,
+        bytes: before + len + end,
+    })
 }
 
 // Whether a record that does not end in a text of so many bytes may do so in a longer one.
 fn unfinished(left: usize) -> Size
     ensures { λ r. ⌜ r ≡ unfinishedSize left ⌝ }
 {
-    if left < MOST_BYTES + 2 {
+    if left < MOST_BYTES + LINE_END {
         Size::More
     } else {
         Size::Bad
@@ -136,16 +177,16 @@ fn behind_field(text: &[u8], at: usize, len: usize) -> Field
     if text.len() <= end {
         return Field::End(len);
     }
-    if text[end] == b',' {
+    if text[end] == COMMA {
         return Field::Comma(len);
     }
-    if text[end] != b'\r' {
+    if text[end] != CR {
         return Field::Bad;
     }
     if text.len() <= end + 1 {
         return Field::Open;
     }
-    if text[end + 1] == b'\n' {
+    if text[end + 1] == LF {
         Field::Line(len)
     } else {
         Field::Bad
@@ -172,10 +213,10 @@ fn is_plain(b: u8) -> bool
     ensures { λ r. ⌜ r ≡ plainByte b ⌝ }
 {
     match b {
-        b',' => false,
-        b'"' => false,
-        b'\r' => false,
-        b'\n' => false,
+        COMMA => false,
+        QUOTE => false,
+        CR => false,
+        LF => false,
         _ => true,
     }
 }
@@ -191,7 +232,7 @@ fn closing(text: &[u8], at: usize) -> usize
         if text.len() <= quote {
             return 0;
         }
-        if byte_at(text, quote + 1) != b'"' {
+        if byte_at(text, quote + 1) != QUOTE {
             return quote + 1 - at;
         }
         i = quote + 2;
@@ -206,7 +247,7 @@ fn quoted_run(text: &[u8], at: usize) -> usize
 {
     let mut i = at;
     while i < text.len() {
-        if text[i] == b'"' {
+        if text[i] == QUOTE {
             return i - at;
         }
         i += 1;

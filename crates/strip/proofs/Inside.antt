@@ -12,7 +12,7 @@ use Rattle.columns.specs.declared.Columns.{Columns}
 use Rattle.columns.proofs.Kept.{columns-kept}
 use Rattle.stripping.specs.Stripping.{StripSays}
 use Rattle.stripping.specs.declared.Stripped.{Stripped}
-use Rattle.strip.specs.Held.{Held}
+use Rattle.strip.specs.InnerHeld.{Held}
 use Rattle.stripping.proofs.Calls.{Inside, text-inside}
 
 -- So many elements from the front.

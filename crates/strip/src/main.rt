@@ -1,18 +1,31 @@
 // The stripping program, `strip BOOK CLASS`: cuts the export on standard input down to what a reader of this class may see by this rulebook, on
 // standard output. A refusal goes to standard error.
+use assign::Assigned;
+use assign::assign;
+use classes::Class;
 use columns::Columns;
+use columns::Reader;
 use columns::kept_columns;
+use columns::reader_class;
+use keys::AT_KEY;
+use keys::END_KEY;
+use keys::FORM_KEY;
+use keys::REFUSED_KEY;
 use libc::STDERR_FILENO;
 use libc::STDIN_FILENO;
 use libc::STDOUT_FILENO;
 use records::MOST_FIELDS;
+use refusals::MOST_ITEMS;
 use refusals::MOST_TEXT;
+use refusals::Refusal;
+use refusals::fault_number;
+use rules::Head;
 use stripping::Stripped;
 use stripping::strip;
 ghost use mathlib.Core.Path.{_≡_};
 ghost use Prim.Native.Nat.{_≤_, _-_};
 ghost use lib.ListN.{length};
-ghost use Rattle.strip.specs.Held.{Held};
+ghost use Rattle.strip.specs.InnerHeld.{Held};
 
 // One byte more than the longest rulebook, so that a longer one is seen as such without reading on.
 const ENOUGH: usize = MOST_TEXT + 1;
@@ -87,17 +100,29 @@ fn fill(fd: i32, buf: &mut [u8], from: usize) -> Filled
     }
 }
 
-// Strips the export by this book and the class that the second argument gives, if neither is refused. An argument that is too long for the buffer is no class.
+// Labels the book, and strips the export by it if it is not refused.
 fn run(book: &[u8]) {
-    let mut class = [0u8; 64];
-    let k = os::arg(2, &mut class);
-    if !is_refused(book, &class[..k]) {
-        strip_export(book, &class[..k]);
+    let mut items = [0u8; items::WHOLE_TABLE];
+    let mut levels = [0u64; MOST_ITEMS];
+    let mut marks = [0u64; MOST_ITEMS];
+    match assign(book, &mut items, &mut levels, &mut marks) {
+        Assigned::Labelled(head) => run_labelled(&items, head, &levels, &marks),
+        Assigned::Refused(refusal) => refuse(refusal),
     }
 }
 
-// Strips the export by a book and a class that are right.
-fn strip_export(book: &[u8], class: &[u8]) {
+// Strips the export for the class that the second argument gives, if it is one. An argument that is too long for the buffer is no class.
+fn run_labelled(items: &[u8], head: Head, levels: &[u64], marks: &[u64]) {
+    let mut class = [0u8; 64];
+    let k = os::arg(2, &mut class);
+    match reader_class(&class[..k]) {
+        Reader::Known(reader) => strip_export(items, head, levels, marks, reader),
+        Reader::Refused(refusal) => refuse(refusal),
+    }
+}
+
+// Strips the export by labelled items and a reader's class.
+fn strip_export(items: &[u8], head: Head, levels: &[u64], marks: &[u64], reader: Class) {
     let mut buf = [0u8; MOST_TEXT];
     let read = fill(STDIN_FILENO, &mut buf, 0);
     if read.failed {
@@ -106,23 +131,19 @@ fn strip_export(book: &[u8], class: &[u8]) {
     }
     let have = read.have;
     let mut kept = [false; MOST_FIELDS];
-    match kept_columns(book, class, &buf[..have], read.last, &mut kept) {
+    match kept_columns(
+        items,
+        head,
+        levels,
+        marks,
+        reader,
+        &buf[..have],
+        read.last,
+        &mut kept,
+    ) {
         Columns::Kept(n) => strip_all(&kept[..n], &mut buf, have, read.last),
         Columns::More => return,
-        Columns::Refused(number, place) => refuse(number, place),
-    }
-}
-
-// Whether the book or the class is refused, and then prints why: before any export is read.
-fn is_refused(book: &[u8], class: &[u8]) -> bool {
-    let mut kept = [false; MOST_FIELDS];
-    match kept_columns(book, class, b"", false, &mut kept) {
-        Columns::Refused(number, place) => {
-            refuse(number, place);
-            true
-        }
-        Columns::Kept(_) => false,
-        Columns::More => false,
+        Columns::Refused(refusal) => refuse(refusal),
     }
 }
 
@@ -155,15 +176,16 @@ fn strip_some(kept: &[bool], buf: &mut [u8], out: &mut [u8], place: Place) -> Pl
 {
     let have = place.have;
     match strip(&buf[..have], place.last, kept, place.number, out) {
-        Stripped::Text(used, len, records) => {
+        Stripped::Text(cut) => {
+            let len = cut.len;
             if !io::write_all(STDOUT_FILENO, &out[..len]) {
                 os::fail(b"standard output");
                 return stopped(place);
             }
-            go_on(buf, used, records, place)
+            go_on(buf, cut.used, cut.records, place)
         }
-        Stripped::Refused(number, at) => {
-            refuse(number, at);
+        Stripped::Refused(refusal) => {
+            refuse(refusal);
             stopped(place)
         }
     }
@@ -223,10 +245,17 @@ fn move_down(buf: &mut [u8], used: usize, have: usize) -> usize
 }
 
 // Prints a refusal on standard error.
-fn refuse(number: u64, place: u64) {
-    io::write_all(STDERR_FILENO, b"form=1\nrefused=");
-    io::print_decimal(STDERR_FILENO, number);
-    io::write_all(STDERR_FILENO, b"\nat=");
-    io::print_decimal(STDERR_FILENO, place);
-    io::write_all(STDERR_FILENO, b"\nend=3\n");
+fn refuse(refusal: Refusal) {
+    let fault = refusal.fault;
+    print_line(&FORM_KEY, 1);
+    print_line(&REFUSED_KEY, fault_number(fault));
+    print_line(&AT_KEY, refusal.place);
+    print_line(&END_KEY, 3);
+}
+
+// Prints a line of a key, with its `=`, and a number.
+fn print_line(key: &[u8], n: u64) {
+    io::write_all(STDERR_FILENO, key);
+    io::print_decimal(STDERR_FILENO, n);
+    io::write_all(STDERR_FILENO, b"\n");
 }

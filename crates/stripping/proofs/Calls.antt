@@ -8,23 +8,23 @@ use Prim.Native.Nat.{ℕ, _+_, _≤_}
 use native.Mathlib.Nat.{zero-add}
 use native.Mathlib.Omega.{arith}
 use lib.Dec.{ltb, eqb}
-use lib.ListN.{length, take, drop}
+use lib.ListN.{length, getD, take, drop}
 use borrow.Author.Tests.{ltb-false}
 use Rattle.records.specs.Rows.{mostFields}
 use Rattle.refusals.specs.Numbers.{faultNumber}
+use Rattle.refusals.specs.Said.{Said, success, refused, refusedBy}
 use Rattle.refusals.specs.Sizes.{mostText}
 use Rattle.refusals.specs.declared.Fault.{Fault}
 use Rattle.laws.proofs.Over.{over-length, take-over}
 use Rattle.exports.specs.Rows.{Taken, taken}
 use Rattle.exports.specs.Reading.{Run, allOf}
-use Rattle.exports.specs.Text.{Outcome, strippedFrom, HeldBackApart, Verdict, refused, csvSyntax}
+use Rattle.exports.specs.Text.{Outcome, strippedFrom, HeldBackApart, Verdict, badRecord}
 use Rattle.exports.specs.Reading as run
 use Rattle.exports.proofs.Taking.{taken-within}
 use Rattle.exports.proofs.Cuts.{cuts-do-not-matter}
 use Rattle.exports.proofs.HeldBack.{held-back-leaves-no-trace}
-use Rattle.stripping.specs.Stripping.{answerTo, madeOf, stripAnswer, StripSays}
+use Rattle.stripping.specs.Stripping.{saidCut, answerTo, madeOf, stripAnswer, StripSays}
 use Rattle.stripping.specs.Calls.{Calls, reads, writes, refuses, done}
-use Rattle.stripping.specs.declared.Stripped.{Stripped}
 use Rattle.stripping.proofs.Says.{first-bad}
 
 -- What an answer says of what was taken.
@@ -39,40 +39,42 @@ record RefusedIs (number : ℕ) (t : Taken) (place : ℕ) : Type 0 where
   bad : (eqb (length (t .rows)) 0 && t .faulty) ≡ true
   at : place ≡ number
 
-abbrev AnswerIs : ℕ → ℕ → ℕ → Taken → Stripped → Type 0
-AnswerIs number room n t (Stripped.Text used m k) = TextIs room n t used m k
-AnswerIs number room n t (Stripped.Refused code place) = code ≡ csvSyntax → RefusedIs number t place
+abbrev AnswerIs : ℕ → ℕ → ℕ → Taken → Said → Type 0
+AnswerIs number room n t (success c values) = TextIs room n t (getD values 0 0) (getD values 1 0) (getD values 2 0)
+AnswerIs number room n t (refused code place) = code ≡ faultNumber Fault.CsvSyntax → RefusedIs number t place
 
 answer-is : (number room n : ℕ) (t : Taken) → AnswerIs number room n t (answerTo number room n t)
 answer-is number room n t = by (eqb (length (t .rows)) 0 && t .faulty) refl (ltb room n) refl
   where
     by : (a : Bool) → (eqb (length (t .rows)) 0 && t .faulty) ≡ a → (b : Bool) → ltb room n ≡ b
-        → AnswerIs number room n t (cond a (Stripped.Refused csvSyntax number) (cond b (Stripped.Refused (faultNumber Fault.NoRoom) 0) (Stripped.Text (t .used) n (length (t .rows)))))
+        → AnswerIs number room n t (cond a (refusedBy Fault.CsvSyntax number) (cond b (refusedBy Fault.NoRoom 0) (saidCut (t .used) n (length (t .rows)))))
     by true e b f = λ z. record { bad = e; at = refl }
     by false e true f = λ z. absurd (omega arith)
     by false e false f = record { good = e; fits = ltb-false room n f; used = refl; long = refl; count = refl }
 
-strip-is : (l : List ℕ) (last : Bool) (kept : List Bool) (number room : ℕ)
-    → AnswerIs number room (length (madeOf l last kept)) (taken last (length kept) l) (stripAnswer l last kept number room)
-unfolding stripAnswer
-strip-is l last kept number room = by (ltb mostText (length l)) (ltb mostFields (length kept))
-  where
-    by : (a b : Bool) → AnswerIs number room (length (madeOf l last kept)) (taken last (length kept) l)
-        (cond a (Stripped.Refused (faultNumber Fault.TooLong) 0) (cond b (Stripped.Refused (faultNumber Fault.BadTable) 0) (answerTo number room (length (madeOf l last kept)) (taken last (length kept) l))))
-    by true b = λ z. absurd (omega arith)
-    by false true = λ z. absurd (omega arith)
-    by false false = answer-is number room (length (madeOf l last kept)) (taken last (length kept) l)
+module _ (l : List ℕ) (last : Bool) (kept : List Bool) (number : ℕ) where
+  strip-is : (room : ℕ) → AnswerIs number room (length (madeOf l last kept)) (taken last (length kept) l) (stripAnswer l last kept number room)
+  unfolding stripAnswer
+  strip-is room = by (ltb mostText (length l)) (ltb mostFields (length kept))
+    where
+      by : (a b : Bool) → AnswerIs number room (length (madeOf l last kept)) (taken last (length kept) l)
+          (cond a (refusedBy Fault.TooLong 0)
+          (cond b (refusedBy Fault.BadTable 0) (answerTo number room (length (madeOf l last kept)) (taken last (length kept) l))))
+      by true b = λ z. absurd (omega arith)
+      by false true = λ z. absurd (omega arith)
+      by false false = answer-is number room (length (madeOf l last kept)) (taken last (length kept) l)
 
-says-is : (l : List ℕ) (last : Bool) (kept : List Bool) (number : ℕ) (out : List ℕ) (r : Stripped) (out′ : List ℕ) → StripSays l last kept number out r out′
-    → AnswerIs number (length out) (length (madeOf l last kept)) (taken last (length kept) l) r
-says-is l last kept number out r out′ p =
-    subst (AnswerIs number (length out) (length (madeOf l last kept)) (taken last (length kept) l)) (sym (p .answer)) (strip-is l last kept number (length out))
+says-is : (l : List ℕ) (last : Bool) (kept : List Bool) (number : ℕ) (out : List ℕ) (s : Said) (out′ : List ℕ) → StripSays l last kept number out s out′
+    → AnswerIs number (length out) (length (madeOf l last kept)) (taken last (length kept) l) s
+says-is l last kept number out s out′ p =
+    subst (AnswerIs number (length out) (length (madeOf l last kept)) (taken last (length kept) l)) (sym (p .answer))
+    (strip-is l last kept number (length out))
 
 -- What was written is what was made.
 written : (l : List ℕ) (last : Bool) (kept : List Bool) (number : ℕ) (out : List ℕ) {used n k : ℕ} (out′ : List ℕ)
-    → StripSays l last kept number out (Stripped.Text used n k) out′ → take n out′ ≡ madeOf l last kept
+    → StripSays l last kept number out (saidCut used n k) out′ → take n out′ ≡ madeOf l last kept
 written l last kept number out {used} {n} {k} out′ p =
-    let is = says-is l last kept number out (Stripped.Text used n k) out′ p in
+    let is = says-is l last kept number out (saidCut used n k) out′ p in
     ap (λ (j : ℕ). take j out′) (is .long) ∙ ap (take (length (madeOf l last kept))) (p .out-after)
     ∙ rw zero-add at (take-over out 0 (madeOf l last kept) (omega (arith, is .fits)))
 
@@ -82,9 +84,9 @@ pub record Inside (l out′ : List ℕ) (used n : ℕ) : Type 0 where
   pub written-in : n ≤ length out′
 
 pub text-inside : (l : List ℕ) (last : Bool) (kept : List Bool) (number : ℕ) (out : List ℕ) {used n k : ℕ} (out′ : List ℕ)
-    → StripSays l last kept number out (Stripped.Text used n k) out′ → Inside l out′ used n
+    → StripSays l last kept number out (saidCut used n k) out′ → Inside l out′ used n
 text-inside l last kept number out {used} {n} {k} out′ p =
-    let is = says-is l last kept number out (Stripped.Text used n k) out′ p in
+    let is = says-is l last kept number out (saidCut used n k) out′ p in
     record {
       taken-in = omega (arith, is .used, taken-within last (length kept) l);
       written-in =
@@ -106,19 +108,19 @@ calls-run {kept} {number} {held} {pieces} (writes {text = text} {v} {used} {n} {
     (subst (λ (j : ℕ). Run kept (number + k) (drop j held) pieces text v) (is .used) (calls-run p))))
   where
     is : TextIs (length out) (length (madeOf held last kept)) (taken last (length kept) held) used n k
-    is = says-is held last kept number out (Stripped.Text used n k) out′ says
+    is = says-is held last kept number out (saidCut used n k) out′ says
 calls-run {kept} {number} {held} {pieces} (refuses {place = place} {out = out} {out′} last only says) =
-    subst (λ (j : ℕ). Run kept number held pieces [] (refused csvSyntax j)) (sym (is .at)) (run.refuses last only (bad .0) (bad .1))
+    subst (λ (j : ℕ). Run kept number held pieces [] (badRecord j)) (sym (is .at)) (run.refuses last only (bad .0) (bad .1))
   where
     is : RefusedIs number (taken last (length kept) held) place
-    is = says-is held last kept number out (Stripped.Refused csvSyntax place) out′ says refl
+    is = says-is held last kept number out (refusedBy Fault.CsvSyntax place) out′ says refl
 
     bad : (taken last (length kept) held .rows ≡ []) × (taken last (length kept) held .faulty ≡ true)
     bad = first-bad (taken last (length kept) held .rows) (taken last (length kept) held .faulty) (is .bad)
 calls-run {kept} {number} {held} (done {used = used} {n} {out = out} {out′} says) = run.done none (sound (taken true (length kept) held .faulty) none (is .good))
   where
     is : TextIs (length out) (length (madeOf held true kept)) (taken true (length kept) held) used n 0
-    is = says-is held true kept number out (Stripped.Text used n 0) out′ says
+    is = says-is held true kept number out (saidCut used n 0) out′ says
 
     none : taken true (length kept) held .rows ≡ []
     none = no-rows (taken true (length kept) held .rows) (is .count)

@@ -1,9 +1,7 @@
 -- Why `stripping` is right: a record found by the ends of its fields, lines put into a buffer, record by record, and that any two results of
 -- its promise are equal.
+pub mod Rows
 pub mod Making
-pub mod Ends
-pub mod Reading
-pub mod LastField
 pub mod Putting
 pub mod Taking
 pub mod Says

@@ -15,14 +15,11 @@ use Rattle.puts.specs.Writing.{Put}
 use Rattle.laws.specs.Over.{over}
 use Rattle.puts.proofs.Placed.{put-buffer, put-next}
 use Rattle.laws.proofs.Over.{over-is, over-none, set-over, over-length, take-over, drop-over, over-over}
-use Rattle.exports.specs.Text.{joined}
-use Rattle.exports.specs.Inner.{closedEach}
-use Rattle.exports.proofs.Joining.{closed-joined}
+use Rattle.scans.specs.Ascii.{comma, cr, lf}
+use Rattle.records.specs.Fields.{partOf}
+use Rattle.exports.specs.Text.{withCommas}
+use Rattle.exports.proofs.Joining.{closedEach, closed-commas}
 use Rattle.stripping.specs.Inner.{Made, KeepReady, Keeps, linePlace, EndReady, EndsLine}
-
--- A part from a place on.
-pub part-is : (at len : ℕ) (l : List ℕ) → take (at + len - at) l ≡ take len l
-part-is at len l = ap (λ (k : ℕ). take k l) (let e : at + len - at ≡ len = omega arith in e)
 
 -- Nothing is made.
 pub made-none : (d : List ℕ) (to : ℕ) → to ≤ length d → Made d to [] d
@@ -48,57 +45,50 @@ pub set-made : (d : List ℕ) (to b : ℕ) → to < length d → Made d to (b �
 set-made d to b h = record { buffer = set-over d to b h; room = omega arith }
 
 -- A field that is not kept, and one that is kept and put with a comma behind it.
-pub keeps-none : (l : List ℕ) (at len : ℕ) (kept : Bool) (d : List ℕ) (to : ℕ) → not kept ≡ true → KeepReady l at len d to
-    → Keeps l at len kept d to to d
-keeps-none l at len true d to h ready = let z : _≡_ {A = ℕ} 0 1 = cc in absurd (omega arith)
-keeps-none l at len false d to h ready = record { made = made-none d to (omega (arith, ready .room)); next = sym (add-zero to) }
+pub keeps-none : (l : List ℕ) (from end : ℕ) (kept : Bool) (d : List ℕ) (to : ℕ) → not kept ≡ true → KeepReady l from end d to
+    → Keeps l from end kept d to to d
+keeps-none l from end true d to h ready = let z : _≡_ {A = ℕ} 0 1 = cc in absurd (omega arith)
+keeps-none l from end false d to h ready = record { made = made-none d to (omega (arith, ready .room)); next = sym (add-zero to) }
 
-pub keeps-put : (l : List ℕ) (at len : ℕ) (kept : Bool) (d : List ℕ) (to : ℕ) {x d₁ : List ℕ} {r : ℕ} → not kept ≡ false
-    → KeepReady l at len d to → x ≡ take len (drop at l) → Put d to x d₁ r → Keeps l at len kept d to (r + 1) (set d₁ r 44)
-keeps-put l at len false d to h ready e p = let z : _≡_ {A = ℕ} 0 1 = cc in absurd (omega arith)
-keeps-put l at len true d to {x} {d₁} {r} h ready e p = record {
-  made =
-      rw (← e) (made-made (put-made p fits)
-      (subst (λ (k : ℕ). Made d₁ k (44 ∷ []) (set d₁ r 44)) next (set-made d₁ r 44 (omega (arith, next, long, ready .room, size)))));
-  next = rw (← e) (omega (arith, next, length-append x (44 ∷ [])));
-}
-  where
-    long : length x ≡ len
-    long = ap length e ∙ length-take-le len (drop at l) (omega (arith, length-drop at l, ready .inside))
-
-    fits : to + length x ≤ length d
-    fits = omega (arith, long, ready .room)
-
-    next : r ≡ to + length x
-    next = put-next p fits
-
-    size : length d₁ ≡ length d
-    size = made-size (put-made p fits)
-
--- There is room for the comma.
-module _ (l : List ℕ) (at len : ℕ) (d : List ℕ) (to : ℕ) {x d₁ : List ℕ} {r : ℕ} (ready : KeepReady l at len d to)
-    (e : x ≡ take len (drop at l)) (p : Put d to x d₁ r) where
-  long : length x ≡ len
-  long = ap length e ∙ length-take-le len (drop at l) (omega (arith, length-drop at l, ready .inside))
+module _ (l : List ℕ) (from end : ℕ) (d : List ℕ) (to : ℕ) {x d₁ : List ℕ} {r : ℕ} (ready : KeepReady l from end d to)
+    (e : x ≡ partOf l from end) (p : Put d to x d₁ r) where
+  long : length x ≡ end - from
+  long = ap length e ∙ length-take-le (end - from) (drop from l) (omega (arith, length-drop from l, ready .order, ready .inside))
 
   fits : to + length x ≤ length d
   fits = omega (arith, long, ready .room)
 
+  next : r ≡ to + length x
+  next = put-next p fits
+
+  size : length d₁ ≡ length d
+  size = made-size (put-made p fits)
+
+  -- There is room for the comma.
   pub comma-in : r < length d₁
-  comma-in = omega (arith, put-next p fits, made-size (put-made p fits), ready .room, long)
+  comma-in = omega (arith, next, size, ready .room, long)
 
   pub comma-fits : length d < 2 ^ 64 → Fits w64 (r + 1)
-  comma-fits h = record { fits = omega (arith, put-next p fits, ready .room, long) }
+  comma-fits h = record { fits = omega (arith, next, ready .room, long) }
+
+  pub keeps-put : (kept : Bool) → not kept ≡ false → Keeps l from end kept d to (r + 1) (set d₁ r comma)
+  keeps-put false h = let z : _≡_ {A = ℕ} 0 1 = cc in absurd (omega arith)
+  keeps-put true h = record {
+    made =
+        rw (← e)
+        (made-made (put-made p fits) (subst (λ (k : ℕ). Made d₁ k (comma ∷ []) (set d₁ r comma)) next (set-made d₁ r comma comma-in)));
+    next = rw (← e) (omega (arith, next, length-append x (comma ∷ [])));
+  }
 
 -- The line end behind what was made, over the comma behind the last field or at the place itself.
-pub ends-over : (d : List ℕ) (to n : ℕ) {d′ : List ℕ} {r : ℕ} → EndReady d to n → to < n → Put d (n - 1) (13 ∷ 10 ∷ []) d′ r
+pub ends-over : (d : List ℕ) (to n : ℕ) {d′ : List ℕ} {r : ℕ} → EndReady d to n → to < n → Put d (n - 1) (cr ∷ lf ∷ []) d′ r
     → EndsLine d to n r d′
 ends-over d to n ready h p = record {
   made = rw (lt-ltb to n h) (put-made p (omega (arith, h, ready .over-comma h)));
   next = rw (lt-ltb to n h) (put-next p (omega (arith, h, ready .over-comma h)));
 }
 
-pub ends-here : (d : List ℕ) (to n : ℕ) {d′ : List ℕ} {r : ℕ} → EndReady d to n → n ≤ to → Put d n (13 ∷ 10 ∷ []) d′ r → EndsLine d to n r d′
+pub ends-here : (d : List ℕ) (to n : ℕ) {d′ : List ℕ} {r : ℕ} → EndReady d to n → n ≤ to → Put d n (cr ∷ lf ∷ []) d′ r → EndsLine d to n r d′
 ends-here d to n ready h p = record {
   made = rw (le-ltb to n h) (put-made p (ready .here h));
   next = rw (le-ltb to n h) (put-next p (ready .here h));
@@ -153,30 +143,30 @@ place-over : (to k n : ℕ) → n ≡ to + (k + 1) → linePlace to n ≡ to + k
 place-over to k n e = rw (lt-ltb to n (omega (arith, e))) (omega (arith, e))
 
 -- Joined fields lack the last comma of closed ones.
-pub joined-most : (gs : List (List ℕ)) → length (joined gs) ≤ length (closedEach gs) - 1
-unfolding closedEach joined
-joined-most [] = zero-le
-joined-most (g ∷ gs) = omega (arith, ap length (closed-joined (g ∷ gs) (omega arith)), length-append (joined (g ∷ gs)) (44 ∷ []))
+pub commas-most : (gs : List (List ℕ)) → length (withCommas gs) ≤ length (closedEach gs) - 1
+unfolding closedEach withCommas
+commas-most [] = zero-le
+commas-most (g ∷ gs) = omega (arith, ap length (closed-commas (g ∷ gs) (omega arith)), length-append (withCommas (g ∷ gs)) (comma ∷ []))
 
--- The line end stands behind the joined fields.
-line-place : (to n : ℕ) (gs : List (List ℕ)) → n ≡ to + length (closedEach gs) → linePlace to n ≡ to + length (joined gs)
-unfolding closedEach joined
+-- The line end stands behind the withCommas fields.
+line-place : (to n : ℕ) (gs : List (List ℕ)) → n ≡ to + length (closedEach gs) → linePlace to n ≡ to + length (withCommas gs)
+unfolding closedEach withCommas
 line-place to n [] e = place-here to n (omega (arith, e)) ∙ sym (add-zero to)
 line-place to n (g ∷ gs) e =
-    place-over to (length (joined (g ∷ gs))) n
-    (omega (arith, e, ap length (closed-joined (g ∷ gs) (omega arith)), length-append (joined (g ∷ gs)) (44 ∷ [])))
+    place-over to (length (withCommas (g ∷ gs))) n
+    (omega (arith, e, ap length (closed-commas (g ∷ gs) (omega arith)), length-append (withCommas (g ∷ gs)) (comma ∷ [])))
 
--- Closed fields with the line end over the last comma are joined fields and a line end.
+-- Closed fields with the line end over the last comma are withCommas fields and a line end.
 line-over : {d : List ℕ} {to : ℕ} (gs : List (List ℕ)) {d₁ d₂ : List ℕ} → Made d to (closedEach gs) d₁
-    → Made d₁ (to + length (joined gs)) (13 ∷ 10 ∷ []) d₂ → Made d to (joined gs ++ 13 ∷ 10 ∷ []) d₂
-unfolding closedEach joined
+    → Made d₁ (to + length (withCommas gs)) (cr ∷ lf ∷ []) d₂ → Made d to (withCommas gs ++ cr ∷ lf ∷ []) d₂
+unfolding closedEach withCommas
 line-over [] p q = made-made p q
 line-over {d} {to} (g ∷ gs) {d₁} p q =
-    made-over (joined (g ∷ gs)) (44 ∷ []) (omega arith) (subst (λ (x : List ℕ). Made d to x d₁) (closed-joined (g ∷ gs) (omega arith)) p) q
+    made-over (withCommas (g ∷ gs)) (comma ∷ []) (omega arith) (subst (λ (x : List ℕ). Made d to x d₁) (closed-commas (g ∷ gs) (omega arith)) p) q
 
 module _ {d₁ : List ℕ} {to n r : ℕ} {d₂ : List ℕ} (gs : List (List ℕ)) (e : n ≡ to + length (closedEach gs)) (q : EndsLine d₁ to n r d₂) where
-  pub line-made : {d : List ℕ} → Made d to (closedEach gs) d₁ → Made d to (joined gs ++ 13 ∷ 10 ∷ []) d₂
-  line-made p = line-over gs p (subst (λ (k : ℕ). Made d₁ k (13 ∷ 10 ∷ []) d₂) (line-place to n gs e) (q .made))
+  pub line-made : {d : List ℕ} → Made d to (closedEach gs) d₁ → Made d to (withCommas gs ++ cr ∷ lf ∷ []) d₂
+  line-made p = line-over gs p (subst (λ (k : ℕ). Made d₁ k (cr ∷ lf ∷ []) d₂) (line-place to n gs e) (q .made))
 
-  pub line-next : r ≡ to + length (joined gs ++ 13 ∷ 10 ∷ [])
-  line-next = omega (arith, q .next, line-place to n gs e, length-append (joined gs) (13 ∷ 10 ∷ []))
+  pub line-next : r ≡ to + length (withCommas gs ++ cr ∷ lf ∷ [])
+  line-next = omega (arith, q .next, line-place to n gs e, length-append (withCommas gs) (cr ∷ lf ∷ []))

@@ -15,13 +15,13 @@ use Rattle.laws.specs.Over.{over}
 use Rattle.puts.proofs.Placed.{put-buffer}
 use Rattle.laws.proofs.Over.{over-none, take-over}
 use Rattle.records.specs.Rows.{mostFields}
-use Rattle.refusals.specs.Numbers.{faultNumber}
+use Rattle.refusals.specs.Said.{refusedBy}
 use Rattle.refusals.specs.Sizes.{mostText}
 use Rattle.refusals.specs.declared.Fault.{Fault}
 use Rattle.exports.specs.Rows.{taken}
-use Rattle.exports.specs.Text.{linesOf, csvSyntax}
+use Rattle.exports.specs.Text.{recordLines}
 use Rattle.exports.proofs.Joining.{lines-none}
-use Rattle.stripping.specs.Stripping.{answerTo, madeOf, stripAnswer, StripSays}
+use Rattle.stripping.specs.Stripping.{saidCut, saidStripped, answerTo, madeOf, stripAnswer, StripSays}
 use Rattle.stripping.specs.Inner.{FrontSays}
 use Rattle.stripping.specs.declared.Front.{Front}
 use Rattle.stripping.specs.declared.Stripped.{Stripped}
@@ -29,13 +29,13 @@ use Rattle.stripping.proofs.Making.{made-size}
 
 -- What was put is no longer than the buffer, and stands at its front.
 module _ {l : List ℕ} {last : Bool} {kept : List Bool} {d : List ℕ} {r : Front} {d′ : List ℕ} (p : FrontSays l last kept d r d′) where
-  pub front-within : r .len ≤ length d′
+  pub front-within : r .cut .len ≤ length d′
   front-within = omega (arith, p .len, p .made .room, made-size (p .made))
 
-  pub front-long : r .len ≡ length (take (r .len) d′)
-  front-long = sym (length-take-le (r .len) d′ front-within)
+  pub front-long : r .cut .len ≡ length (take (r .cut .len) d′)
+  front-long = sym (length-take-le (r .cut .len) d′ front-within)
 
-  pub front-text : take (r .len) d′ ≡ madeOf l last kept
+  pub front-text : take (r .cut .len) d′ ≡ madeOf l last kept
   front-text =
       ap (λ (k : ℕ). take k d′) (p .len ∙ sym (zero-add (length (madeOf l last kept))))
       ∙ ap (take (0 + length (madeOf l last kept))) (p .made .buffer) ∙ take-over d 0 (madeOf l last kept) (p .made .room)
@@ -54,17 +54,21 @@ pub front-refused : {l : List ℕ} {last : Bool} {kept : List Bool} {d : List �
 front-refused {l} {last} {kept} {d} p h =
     p .made .buffer
     ∙ ap (over d 0)
-    (ap (linesOf kept) (first-bad (taken last (length kept) l .rows) (taken last (length kept) l .faulty) (sym (p .refused) ∙ h) .0) ∙ lines-none kept)
+    (ap (recordLines kept) (first-bad (taken last (length kept) l .rows) (taken last (length kept) l .faulty) (sym (p .refused) ∙ h) .0) ∙ lines-none kept)
     ∙ over-none d 0
 
+-- A refusal is answered.
+abbrev RefusedFor : Fault → ℕ → Stripped
+RefusedFor f p = Stripped.Refused (record { fault = f; place = p })
+
 module _ {l : List ℕ} (last : Bool) {kept : List Bool} (number : ℕ) (out : List ℕ) where
-  pub says-long : {k : ℕ} → mostText < length l → k ≡ faultNumber Fault.TooLong → StripSays l last kept number out (Stripped.Refused k 0) out
+  pub says-long : {a : Stripped} → mostText < length l → a ≡ RefusedFor Fault.TooLong 0 → StripSays l last kept number out (saidStripped a) out
   unfolding stripAnswer
   says-long h f = rw f (record { answer = rw (lt-ltb mostText (length l) h); out-after = refl })
 
   module _ (short : length l ≤ mostText) where
-    pub says-wide : {k : ℕ} → mostFields < length kept → k ≡ faultNumber Fault.BadTable
-        → StripSays l last kept number out (Stripped.Refused k 0) out
+    pub says-wide : {a : Stripped} → mostFields < length kept → a ≡ RefusedFor Fault.BadTable 0
+        → StripSays l last kept number out (saidStripped a) out
     unfolding stripAnswer
     says-wide h f = rw f (record { answer = rw (le-ltb mostText (length l) short, lt-ltb mostFields (length kept) h); out-after = refl })
 
@@ -77,32 +81,37 @@ module _ {l : List ℕ} (last : Bool) {kept : List Bool} (number : ℕ) (out : L
       -- The answer by the two tests that are left.
       answer-by : (a b : Bool) → (eqb (length (taken last (length kept) l .rows)) 0 && taken last (length kept) l .faulty) ≡ a
           → ltb (length out) (length (madeOf l last kept)) ≡ b
-          → cond a (Stripped.Refused csvSyntax number)
-          (cond b (Stripped.Refused (faultNumber Fault.NoRoom) 0)
-          (Stripped.Text (taken last (length kept) l .used) (length (madeOf l last kept)) (length (taken last (length kept) l .rows))))
+          → cond a (refusedBy Fault.CsvSyntax number)
+          (cond b (refusedBy Fault.NoRoom 0)
+          (saidCut (taken last (length kept) l .used) (length (madeOf l last kept)) (length (taken last (length kept) l .rows))))
           ≡ stripAnswer l last kept number (length out)
       answer-by a b e f = rw (← e, ← f) answer-is
 
-      pub says-refused : r .refused ≡ true → StripSays l last kept number out (Stripped.Refused csvSyntax number) out
-      says-refused h = record {
-        answer = answer-by true (ltb (length out) (length (madeOf l last kept))) (sym (p .refused) ∙ h) refl;
-        out-after = refl;
-      }
+      refused-answer : r .refused ≡ true → refusedBy Fault.CsvSyntax number ≡ stripAnswer l last kept number (length out)
+      refused-answer h = answer-by true (ltb (length out) (length (madeOf l last kept))) (sym (p .refused) ∙ h) refl
+
+      text-answer : r .refused ≡ false → r .cut .len ≤ length out → saidStripped (Stripped.Text (r .cut)) ≡ stripAnswer l last kept number (length out)
+      text-answer good h =
+          rw (p .used, p .len, p .records)
+          (answer-by false false (sym (p .refused) ∙ good) (le-ltb (length out) (length (madeOf l last kept)) (omega (arith, h, p .len))))
+
+      pub says-refused : {a : Stripped} → r .refused ≡ true → a ≡ RefusedFor Fault.CsvSyntax number
+          → StripSays l last kept number out (saidStripped a) out
+      says-refused h f = rw f (record { answer = refused-answer h; out-after = refl })
 
       module _ (good : r .refused ≡ false) where
-        pub says-no-room : {k : ℕ} → length out < r .len → k ≡ faultNumber Fault.NoRoom → StripSays l last kept number out (Stripped.Refused k 0) out
+        pub says-no-room : {a : Stripped} → length out < r .cut .len → a ≡ RefusedFor Fault.NoRoom 0
+            → StripSays l last kept number out (saidStripped a) out
         says-no-room h f = rw f (record {
           answer =
               answer-by false true (sym (p .refused) ∙ good) (lt-ltb (length out) (length (madeOf l last kept)) (omega (arith, h, p .len)));
           out-after = refl;
         })
 
-        pub says-text : {x out′ : List ℕ} {q : ℕ} → r .len ≤ length out → x ≡ take (r .len) d → Put out 0 x out′ q
-            → StripSays l last kept number out (Stripped.Text (r .used) (r .len) (r .records)) out′
+        pub says-text : {x out′ : List ℕ} {q : ℕ} → r .cut .len ≤ length out → x ≡ take (r .cut .len) d → Put out 0 x out′ q
+            → StripSays l last kept number out (saidStripped (Stripped.Text (r .cut))) out′
         says-text {x} {out′} h e put = record {
-          answer =
-              rw (p .used, p .len, p .records)
-              (answer-by false false (sym (p .refused) ∙ good) (le-ltb (length out) (length (madeOf l last kept)) (omega (arith, h, p .len))));
+          answer = text-answer good h;
           out-after = put-buffer put (omega (arith, ap length same, p .len, h)) ∙ ap (over out 0) same;
         }
           where
@@ -112,14 +121,12 @@ module _ {l : List ℕ} (last : Bool) {kept : List Bool} (number : ℕ) (out : L
 -- The same where the lines were put straight into the buffer.
 module _ {l : List ℕ} (last : Bool) {kept : List Bool} (number : ℕ) (out : List ℕ) (short : length l ≤ mostText)
     (narrow : length kept ≤ mostFields) {r : Front} {out′ : List ℕ} (p : FrontSays l last kept out r out′) where
-  pub straight-refused : r .refused ≡ true → StripSays l last kept number out (Stripped.Refused csvSyntax number) out′
-  straight-refused h = record { answer = says-refused last number out short narrow p h .answer; out-after = front-refused p h }
+  pub straight-refused : {a : Stripped} → r .refused ≡ true → a ≡ RefusedFor Fault.CsvSyntax number
+      → StripSays l last kept number out (saidStripped a) out′
+  straight-refused h f = rw f (record { answer = refused-answer last number out short narrow p h; out-after = front-refused p h })
 
-  pub straight-text : r .refused ≡ false → StripSays l last kept number out (Stripped.Text (r .used) (r .len) (r .records)) out′
+  pub straight-text : r .refused ≡ false → StripSays l last kept number out (saidStripped (Stripped.Text (r .cut))) out′
   straight-text h = record {
-    answer =
-        rw (p .used, p .len, p .records)
-        (answer-by last number out short narrow p false false (sym (p .refused) ∙ h)
-        (le-ltb (length out) (length (madeOf l last kept)) (omega (arith, p .made .room))));
+    answer = text-answer last number out short narrow p h (omega (arith, p .len, p .made .room));
     out-after = p .made .buffer;
   }

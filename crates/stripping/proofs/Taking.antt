@@ -11,32 +11,34 @@ use native.Mathlib.Omega.{arith}
 use lib.Dec.{eqb}
 use lib.ListN.{length, length-append}
 use mir.Syntax.{w64}
-use mir.Val.{Fits as MirFits}
+use mir.Val.{Fits}
 use types.Run.{OneOf}
 use denote.Enum as enum
 use borrow.Author.Tests.{eq-eqb, ne-eqb}
-use Rattle.records.specs.Rows.{mostFields}
+use Rattle.records.specs.Rows.{mostFields, RowSays}
+use Rattle.records.specs.declared.Extent.{Extent}
+use Rattle.records.specs.Inner.{startAt, FieldSpans, fieldsTo}
 use Rattle.records.specs.declared.Size.{Size}
 use Rattle.records.proofs.Size as size
+use Rattle.records.proofs.Parts.{row-length}
 use Rattle.exports.specs.Rows.{Taken, taken}
-use Rattle.exports.specs.Inner.{Gone}
-use Rattle.exports.specs.Text.{linesOf, lineOf}
-use Rattle.exports.proofs.Gone.{gone-start, gone-on, gone-end, gone-more, gone-bad}
+use Rattle.exports.specs.Text.{recordLines, recordLine}
+use Rattle.exports.proofs.Gone.{Gone, gone-start, gone-on, gone-end, gone-more, gone-bad}
 use Rattle.exports.proofs.Joining.{lines-none, lines-one-more}
-use Rattle.stripping.specs.Inner.{Made, Fits, fieldsTo, ReadReady, WholeRow, RowRead, is-whole, is-more, is-bad}
-use Rattle.stripping.specs.Inner.{PutReady, RowPut, TakeReady, FrontSays, isBad}
+use Rattle.stripping.specs.Inner.{Made, NoLonger, PutReady, RowPut, TakeReady, FrontSays, fittedSize, isBad}
 use Rattle.stripping.proofs.Making.{made-none, made-made, made-size}
+use Rattle.stripping.proofs.Rows.{RowFits, fits-found, RowFound, is-whole, is-more, is-bad, row-found}
 
 -- What the loop over the records keeps from turn to turn: n records are taken, up to a place, and their lines are put.
 pub record TakeAt (l : List ℕ) (last : Bool) (kept : List Bool) (d₀ d ends : List ℕ) (at to n : ℕ) : Type 0 where
   pub ready : TakeReady l kept d₀
   pub rows : List (List (List ℕ))
   pub gone : Gone last (length kept) l rows at
-  pub made : Made d₀ 0 (linesOf kept rows) d
-  pub len : to ≡ length (linesOf kept rows)
+  pub made : Made d₀ 0 (recordLines kept rows) d
+  pub len : to ≡ length (recordLines kept rows)
   pub count : length rows ≡ n
   pub few : n ≤ at
-  pub fits : Fits l at to
+  pub fits : NoLonger l at to
   pub size : length d ≡ length d₀
   pub many : length ends ≡ mostFields
 
@@ -73,16 +75,17 @@ module _ {n : ℕ} (found : Size) where
   pub refuses-more : n ≡ 0 → found ≡ Size.More → false ≡ (eqb n 0 && isBad found)
   refuses-more = refuses-is
 
-  pub refuses-whole : {next end : ℕ} → n ≡ 0 → found ≡ Size.Whole next end → false ≡ (eqb n 0 && isBad found)
+  pub refuses-whole : {x : Extent} → n ≡ 0 → found ≡ Size.Whole x → false ≡ (eqb n 0 && isBad found)
   refuses-whole = refuses-is
 
 module _ {l : List ℕ} {last : Bool} {kept : List Bool} {d₀ d ends₀ : List ℕ} {at to n : ℕ} (p : TakeAt l last kept d₀ d ends₀ at to n) where
-  pub read-ready : at < length l → ReadReady l at (length kept) ends₀
-  read-ready h = record { here = h; room = omega (arith, p .many, p .ready .narrow) }
+  -- There is room for the ends of all fields.
+  room : length kept ≤ length ends₀
+  room = omega (arith, p .many, p .ready .narrow)
 
   -- What is said of what was taken.
   front : {faulty : Bool} → taken last (length kept) l ≡ record { rows = p .rows; used = at; faulty = faulty }
-      → FrontSays l last kept d₀ (record { used = at; len = to; records = n; refused = eqb n 0 && faulty }) d
+      → FrontSays l last kept d₀ (record { cut = record { used = at; len = to; records = n }; refused = eqb n 0 && faulty }) d
   front {faulty} e = record {
     used = sym (ap (λ (t : Taken). t .used) e);
     made = subst (λ (x : List ℕ). Made d₀ 0 x d) (sym lines) (p .made);
@@ -93,84 +96,90 @@ module _ {l : List ℕ} {last : Bool} {kept : List Bool} {d₀ d ends₀ : List 
         ∙ sym (ap (λ (t : Taken). eqb (length (t .rows)) 0 && t .faulty) e);
   }
     where
-      lines : linesOf kept (taken last (length kept) l .rows) ≡ linesOf kept (p .rows)
-      lines = ap (λ (t : Taken). linesOf kept (t .rows)) e
+      lines : recordLines kept (taken last (length kept) l .rows) ≡ recordLines kept (p .rows)
+      lines = ap (λ (t : Taken). recordLines kept (t .rows)) e
 
   -- The text is at its end.
-  pub take-end : length l ≤ at → FrontSays l last kept d₀ (record { used = at; len = to; records = n; refused = false }) d
+  pub take-end : length l ≤ at → FrontSays l last kept d₀ (record { cut = record { used = at; len = to; records = n }; refused = false }) d
   take-end h =
-      subst (λ (b : Bool). FrontSays l last kept d₀ (record { used = at; len = to; records = n; refused = b }) d) (and-false (eqb n 0))
+      subst (λ (b : Bool). FrontSays l last kept d₀ (record { cut = record { used = at; len = to; records = n }; refused = b }) d) (and-false (eqb n 0))
       (front (gone-end (p .gone) h))
 
   -- A record is not whole.
-  pub take-stopped : {found : Size} {ends : List ℕ} {b : Bool} → at < length l → RowRead l at last (length kept) found ends
-      → OneOf (1 ∷ 2 ∷ []) (enum.Declared.tagOf size.the-type found) → b ≡ (eqb n 0 && isBad found)
-      → FrontSays l last kept d₀ (record { used = at; len = to; records = n; refused = b }) d
-  take-stopped h (is-whole q) (inl z) e = absurd (omega arith)
-  take-stopped h (is-whole q) (inr z) e = absurd (omega arith)
-  take-stopped h (is-more q) o e =
-      subst (λ (x : Bool). FrontSays l last kept d₀ (record { used = at; len = to; records = n; refused = x }) d) (sym e)
-      (front (gone-more (p .gone) q))
-  take-stopped h (is-bad q) o e =
-      subst (λ (x : Bool). FrontSays l last kept d₀ (record { used = at; len = to; records = n; refused = x }) d) (sym e)
-      (front (gone-bad (p .gone) h q))
+  pub take-stopped : {found₀ found : Size} {ends : List ℕ} {b : Bool} → at < length l → RowSays l at last (length kept) ends₀ found₀ ends
+      → found ≡ fittedSize (length kept) found₀ → OneOf (1 ∷ 2 ∷ []) (enum.Declared.tagOf size.the-type found) → b ≡ (eqb n 0 && isBad found)
+      → FrontSays l last kept d₀ (record { cut = record { used = at; len = to; records = n }; refused = b }) d
+  take-stopped {found = found} {ends} {b} h q f o e = by (row-found q f room h) o e
+    where
+      by : {r : Size} → RowFound l at last (length kept) ends r → OneOf (1 ∷ 2 ∷ []) (enum.Declared.tagOf size.the-type r) → b ≡ (eqb n 0 && isBad r)
+          → FrontSays l last kept d₀ (record { cut = record { used = at; len = to; records = n }; refused = b }) d
+      by (is-whole w) (inl z) g = absurd (omega arith)
+      by (is-whole w) (inr z) g = absurd (omega arith)
+      by (is-more w) x g =
+          subst (λ (y : Bool). FrontSays l last kept d₀ (record { cut = record { used = at; len = to; records = n }; refused = y }) d) (sym g)
+          (front (gone-more (p .gone) w))
+      by (is-bad w) x g =
+          subst (λ (y : Bool). FrontSays l last kept d₀ (record { cut = record { used = at; len = to; records = n }; refused = y }) d) (sym g)
+          (front (gone-bad (p .gone) h w))
 
-  pub count-fits : at < length l → length l < 2 ^ 64 → MirFits w64 (n + 1)
+  pub count-fits : at < length l → length l < 2 ^ 64 → Fits w64 (n + 1)
   count-fits h g = record { fits = omega (arith, p .few) }
 
   -- A record is whole.
-  module _ {found : Size} {ends : List ℕ} {fields used : ℕ} (h : at < length l) (q : RowRead l at last (length kept) found ends)
-      (e : found ≡ Size.Whole fields used) where
-    row : WholeRow l at last (length kept) ends used
-    row = on (subst (λ (r : Size). RowRead l at last (length kept) r ends) e q)
+  module _ {found₀ found : Size} {ends : List ℕ} {x : Extent} (h : at < length l) (q : RowSays l at last (length kept) ends₀ found₀ ends)
+      (f : found ≡ fittedSize (length kept) found₀) (e : found ≡ Size.Whole x) where
+    fit : RowFits l at last (length kept) ends x
+    fit = on (subst (RowFound l at last (length kept) ends) e (row-found q f room h))
       where
-        on : RowRead l at last (length kept) (Size.Whole fields used) ends → WholeRow l at last (length kept) ends used
+        on : RowFound l at last (length kept) ends (Size.Whole x) → RowFits l at last (length kept) ends x
         on (is-whole w) = w
 
-    pub put-ready : length ends ≡ length ends₀ → PutReady l at ends (length kept) d to
-    put-ready z = record {
+    pub put-ready : PutReady l at ends (length kept) d to
+    put-ready = record {
       spacious = record { room = omega (arith, p .ready .spacious .room, p .size) };
       here = h;
       fits = p .fits .inside h;
-      many = omega (arith, z, p .many, p .ready .narrow);
-      lies = row .lies;
+      many = omega (arith, row-length q, p .many, p .ready .narrow);
+      spans = subst (FieldSpans l at ends) (fit .all) (fit .row .spans);
     }
 
-    pub place-fits : length l < 2 ^ 64 → MirFits w64 (at + used)
-    place-fits g = record { fits = omega (arith, row .within) }
+    pub place-fits : length l < 2 ^ 64 → Fits w64 (at + x .bytes)
+    place-fits g = record { fits = omega (arith, fit .row .within) }
 
     -- The next record stands further on.
-    pub take-less : length l - (at + used) < length l - at
-    take-less = omega (arith, row .some)
+    pub take-less : length l - (at + x .bytes) < length l - at
+    take-less = omega (arith, fit .row .some h)
 
     abbrev fs : List (List ℕ)
     fs = fieldsTo l at ends (length kept)
 
-    pub take-on : {end : ℕ} {d′ : List ℕ} → RowPut l at ends kept d to end d′ → length ends ≡ length ends₀
-        → TakeAt l last kept d₀ d′ ends (at + used) end (n + 1)
-    take-on {end} {d′} w z = record {
+    pub take-on : {end : ℕ} {d′ : List ℕ} → RowPut l at ends kept d to end d′ → TakeAt l last kept d₀ d′ ends (at + x .bytes) end (n + 1)
+    take-on {end} {d′} w = record {
       ready = p .ready;
       rows = p .rows ++ fs ∷ [];
-      gone = gone-on (p .gone) h (row .found);
+      gone = gone-on (p .gone) h (fits-found fit);
       made =
           subst (λ (x : List ℕ). Made d₀ 0 x d′) (sym (lines-one-more kept (p .rows) fs))
           (made-made (p .made)
-          (subst (λ (k : ℕ). Made d k (lineOf kept fs) d′) (p .len ∙ sym (zero-add (length (linesOf kept (p .rows))))) (w .made)));
+          (subst (λ (k : ℕ). Made d k (recordLine kept fs) d′) (p .len ∙ sym (zero-add (length (recordLines kept (p .rows))))) (w .made)));
       len =
           omega (
             arith,
             w .next,
             p .len,
             ap length (lines-one-more kept (p .rows) fs),
-            length-append (linesOf kept (p .rows)) (lineOf kept fs),
+            length-append (recordLines kept (p .rows)) (recordLine kept fs),
           );
       count = length-append (p .rows) (fs ∷ []) ∙ ap (λ (k : ℕ). k + 1) (p .count);
-      few = omega (arith, p .few, row .some);
+      few = omega (arith, p .few, fit .row .some h);
       fits = record {
-        most = omega (arith, w .next, w .most, row .least, p .fits .inside h);
-        inside = λ v. omega (arith, w .next, w .most, row .line v, p .fits .inside h);
-        within = row .within;
+        most = omega (arith, w .next, w .most, start, fit .row .far, fit .row .least, p .fits .inside h);
+        inside = λ v. omega (arith, w .next, w .most, start, fit .row .far, fit .row .line v, p .fits .inside h);
+        within = fit .row .within;
       };
       size = made-size (w .made) ∙ p .size;
-      many = z ∙ p .many;
+      many = row-length q ∙ p .many;
     }
+      where
+        start : startAt at ends (x .fields) ≡ startAt at ends (length kept)
+        start = ap (startAt at ends) (fit .all)

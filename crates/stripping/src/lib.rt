@@ -2,76 +2,89 @@
 mod row;
 
 use puts::put;
-use records::CSV_SYNTAX;
+use records::LINE_END;
 use records::MOST_FIELDS;
 use records::Size;
+use records::read_row;
 use refusals::Fault;
 use refusals::MOST_TEXT;
-use refusals::fault_number;
+use refusals::Refusal;
 use row::put_row;
-use row::read_row;
 ghost use mathlib.Core.Path.{_≡_};
 ghost use mathlib.Core.Bool.{_&&_};
 ghost use lib.Dec.{eqb};
-ghost use Rattle.stripping.specs.Stripping.{StripSays};
-ghost use Rattle.stripping.specs.Inner.{FrontSays, TakeReady, ShortReady, isBad};
+ghost use Rattle.stripping.specs.Stripping.{saidStripped, StripSays};
+ghost use Rattle.stripping.specs.Inner.{FrontSays, TakeReady, ShortReady, fittedSize, isBad};
 
 // The most bytes that are made of a text: a last record may lack its line end.
-const MOST_MADE: usize = MOST_TEXT + 2;
+const MOST_MADE: usize = MOST_TEXT + LINE_END;
 
-// What stripping answers: how many bytes of the text were taken, how many were written, and the number of the records; or the number and the
-// place of a refusal.
-pub enum Stripped {
-    Text(usize, usize, usize),
-    Refused(u64, u64),
+// What was cut from the front of a text: how many bytes of it were taken, how many were written, and of how many records.
+pub struct Cut {
+    pub used: usize,
+    pub len: usize,
+    pub records: usize,
 }
 
-// 1 at 0 where the text has over 32,768 bytes; 10 at 0 where there are over 256 columns; 16 at the record where the first one, which has this
-// number, is bad; 11 at 0 where `out` is shorter than what is written. Else the whole records at the front of the text, up to a bad one, with
+// What stripping answers: what was cut, or a refusal.
+pub enum Stripped {
+    Text(Cut),
+    Refused(Refusal),
+}
+
+// TooLong at 0 where the text has over 32,768 bytes; BadTable at 0 where there are over 256 columns; CsvSyntax at the record where the first one, which has
+// this number, is bad; NoRoom at 0 where `out` is shorter than what is written. Else the whole records at the front of the text, up to a bad one, with
 // only the columns that are kept. Nothing follows the text if it is the last one.
 pub fn strip(text: &[u8], last: bool, kept: &[bool], number: u64, out: &mut [u8]) -> Stripped
-    ensures { λ r. ⌜ StripSays (now (text .entry)) last (now (kept .entry)) number (now (out .entry)) r (now (out .exit)) ⌝ }
+    ensures { λ r. ⌜ StripSays (now (text .entry)) last (now (kept .entry)) number (now (out .entry)) (saidStripped r) (now (out .exit)) ⌝ }
 {
     if MOST_TEXT < text.len() {
-        return Stripped::Refused(fault_number(Fault::TooLong), 0);
+        return refused(Fault::TooLong, 0);
     }
     if MOST_FIELDS < kept.len() {
-        return Stripped::Refused(fault_number(Fault::BadTable), 0);
+        return refused(Fault::BadTable, 0);
     }
-    if out.len() < text.len() + 2 {
+    if out.len() < text.len() + LINE_END {
         return strip_short(text, last, kept, number, out);
     }
     let front = take(text, last, kept, out);
+    let cut = front.cut;
     if front.refused {
-        Stripped::Refused(CSV_SYNTAX, number)
+        refused(Fault::CsvSyntax, number)
     } else {
-        Stripped::Text(front.used, front.len, front.records)
+        Stripped::Text(cut)
     }
+}
+
+// A refusal.
+fn refused(fault: Fault, place: u64) -> Stripped
+    ensures { λ r. ⌜ r ≡ Stripped.Refused (record { fault = fault; place = place }) ⌝ }
+{
+    Stripped::Refused(Refusal { fault, place })
 }
 
 // The same where `out` may be shorter than what is written: that is made elsewhere first.
 fn strip_short(text: &[u8], last: bool, kept: &[bool], number: u64, out: &mut [u8]) -> Stripped
     requires { ⌜ ShortReady (now text) (now kept) ⌝ }
-    ensures { λ r. ⌜ StripSays (now (text .entry)) last (now (kept .entry)) number (now (out .entry)) r (now (out .exit)) ⌝ }
+    ensures { λ r. ⌜ StripSays (now (text .entry)) last (now (kept .entry)) number (now (out .entry)) (saidStripped r) (now (out .exit)) ⌝ }
 {
     let mut made = [0u8; MOST_MADE];
     let front = take(text, last, kept, &mut made);
     if front.refused {
-        return Stripped::Refused(CSV_SYNTAX, number);
+        return refused(Fault::CsvSyntax, number);
     }
-    let len = front.len;
+    let cut = front.cut;
+    let len = cut.len;
     if out.len() < len {
-        return Stripped::Refused(fault_number(Fault::NoRoom), 0);
+        return refused(Fault::NoRoom, 0);
     }
     put(&made[..len], out, 0);
-    Stripped::Text(front.used, len, front.records)
+    Stripped::Text(cut)
 }
 
-// What was taken from the front of a text and made of it. It is refused where the first record is bad.
+// What was cut from the front of a text. It is refused where the first record is bad.
 struct Front {
-    used: usize,
-    len: usize,
-    records: usize,
+    cut: Cut,
     refused: bool,
 }
 
@@ -85,24 +98,43 @@ fn take(text: &[u8], last: bool, kept: &[bool], out: &mut [u8]) -> Front
     let mut to = 0;
     let mut n = 0;
     while at < text.len() {
-        let size = read_row(text, at, last, kept.len(), &mut ends);
-        let Size::Whole(_, used) = size else {
+        let size = fitted(read_row(text, at, last, kept.len(), &mut ends), kept.len());
+        let Size::Whole(row) = size else {
             return Front {
-                used: at,
-                len: to,
-                records: n,
+                cut: Cut {
+                    used: at,
+                    len: to,
+                    records: n,
+                },
                 refused: refuses(size, n),
             };
         };
         to = put_row(text, at, &ends, kept, out, to);
-        at += used;
+        at += row.bytes;
         n += 1;
     }
     Front {
-        used: at,
-        len: to,
-        records: n,
+        cut: Cut {
+            used: at,
+            len: to,
+            records: n,
+        },
         refused: false,
+    }
+}
+
+// A record by the number of columns: one with another number of fields is bad.
+fn fitted(found: Size, columns: usize) -> Size
+    ensures { λ r. ⌜ r ≡ fittedSize columns found ⌝ }
+{
+    match found {
+        Size::Whole(row) => if row.fields == columns {
+            Size::Whole(row)
+        } else {
+            Size::Bad
+        },
+        Size::More => Size::More,
+        Size::Bad => Size::Bad,
     }
 }
 
@@ -116,6 +148,6 @@ fn refuses(found: Size, records: usize) -> bool
     match found {
         Size::Bad => true,
         Size::More => false,
-        Size::Whole(_, _) => false,
+        Size::Whole(_) => false,
     }
 }

@@ -4,14 +4,14 @@ use Rattle.stripping.proofs.Says.{says-long, says-wide, straight-refuse
 use Rattle.stripping.proofs.strip.Statement.{statement}
 use Rattle.stripping.proofs.strip.Tie as tie
 
-fault-number-requires : tie.Need-fault-number-requires
-fault-number-requires c κs = search needs
+refused-requires : tie.Need-refused-requires
+refused-requires c κs = search needs
 
 returns : tie.Need-returns
 returns c = search (says-long, needs)
 
-fault-number-requires-2 : tie.Need-fault-number-requires-2
-fault-number-requires-2 c κs = search needs
+refused-requires-2 : tie.Need-refused-requires-2
+refused-requires-2 c κs = search needs
 
 returns-2 : tie.Need-returns-2
 returns-2 c = search (says-wide, needs)
@@ -31,6 +31,9 @@ returns-3 c = search needs
 take-requires : tie.Need-take-requires
 take-requires c κs = search needs
 
+refused-requires-3 : tie.Need-refused-requires-3
+refused-requires-3 c κs = search needs
+
 same-length-2 : tie.Need-same-length-2
 same-length-2 c = search needs
 
@@ -47,15 +50,16 @@ pub strip-spec : {M : Type 1} → statement M
 strip-spec =
     tie.close
     (tie.spec
-    fault-number-requires
+    refused-requires
     returns
-    fault-number-requires-2
+    refused-requires-2
     returns-2
     add-if3
     strip-short-requires
     same-length
     returns-3
     take-requires
+    refused-requires-3
     same-length-2
     returns-4
     same-length-3

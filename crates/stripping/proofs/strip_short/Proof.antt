@@ -10,11 +10,14 @@ slice-aggregate-take c = search needs
 take-requires : tie.Need-take-requires
 take-requires c κs = search needs
 
+refused-requires : tie.Need-refused-requires
+refused-requires c κs = search needs
+
 returns : tie.Need-returns
 returns c = search (says-refused, needs)
 
-fault-number-requires : tie.Need-fault-number-requires
-fault-number-requires c κs = search needs
+refused-requires-2 : tie.Need-refused-requires-2
+refused-requires-2 c κs = search needs
 
 returns-2 : tie.Need-returns-2
 returns-2 c = search (says-no-room, needs)
@@ -23,7 +26,7 @@ array-share-prefix-made : tie.Need-array-share-prefix-made
 array-share-prefix-made c = search (front-within, needs)
 
 slice-aggregate-put : tie.Need-slice-aggregate-put
-slice-aggregate-put c = front-long (c .before .before .before .before .take .ensures)
+slice-aggregate-put c = search (front-long, needs)
 
 put-requires : tie.Need-put-requires
 put-requires c κs = search needs
@@ -40,8 +43,9 @@ strip-short-spec =
     (tie.spec
     slice-aggregate-take
     take-requires
+    refused-requires
     returns
-    fault-number-requires
+    refused-requires-2
     returns-2
     array-share-prefix-made
     slice-aggregate-put

@@ -2,8 +2,7 @@
 use Prim.Native.Nat.{_-_}
 use lib.ListN.{length}
 use borrow.Author.Needs.{needs}
-use Rattle.stripping.proofs.Taking.{TakeAt, take-none, read-ready, take-stopped, put-ready, place-fits}
-use Rattle.stripping.proofs.Taking.{count-fits, take-less, take-on, take-end}
+use Rattle.stripping.proofs.Taking.{TakeAt, take-none, take-stopped, put-ready, place-fits, count-fits, take-less, take-on, take-end}
 use Rattle.stripping.proofs.take.Statement.{statement}
 use Rattle.stripping.proofs.take.Tie as tie
 
@@ -20,7 +19,10 @@ slice-aggregate-read-row : tie.Need-slice-aggregate-read-row Inv-loop μ-loop
 slice-aggregate-read-row c = search needs
 
 read-row-requires : tie.Need-read-row-requires Inv-loop μ-loop
-read-row-requires c κs = search (read-ready, needs)
+read-row-requires c κs = search needs
+
+fitted-requires : tie.Need-fitted-requires Inv-loop μ-loop
+fitted-requires c κs = search needs
 
 enum-known-size : tie.Need-enum-known-size Inv-loop μ-loop
 enum-known-size c = search needs
@@ -39,8 +41,8 @@ slice-aggregate-put-row c = search needs
 
 put-row-requires : tie.Need-put-row-requires Inv-loop μ-loop
 put-row-requires c κs =
-    put-ready (c .before .before .before .before .before .before .before .before .before .loop .inv) (search needs)
-    (c .before .before .before .before .before .before .read-row .ensures) (c .before .before .before .size .given .1) (search needs)
+    put-ready (c .before .before .before .before .before .before .before .before .before .before .loop .inv) (search needs)
+    (c .before .before .before .before .before .before .before .read-row .ensures) (c .before .before .before .before .before .fitted .ensures) (c .before .before .before .size .given .1)
 
 add-at : tie.Need-add-at Inv-loop μ-loop
 add-at c = search (place-fits, needs)
@@ -69,6 +71,7 @@ take-spec =
     loop-holds
     slice-aggregate-read-row
     read-row-requires
+    fitted-requires
     enum-known-size
     refuses-requires
     same-length

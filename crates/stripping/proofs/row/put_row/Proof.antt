@@ -2,7 +2,7 @@
 use Prim.Native.Nat.{_-_}
 use lib.ListN.{length}
 use borrow.Author.Needs.{needs}
-use Rattle.stripping.proofs.Putting.{PutAt, put-starts, end-there, end-behind, keep-ready, behind-fits, put-on, line-ready, put-ends}
+use Rattle.stripping.proofs.Putting.{PutAt, put-starts, end-there, keep-ready, behind-fits, put-on, line-ready, put-ends}
 use Rattle.stripping.proofs.row.put_row.Statement.{statement}
 use Rattle.stripping.proofs.row.put_row.Tie as tie
 
@@ -20,9 +20,6 @@ mul-end c = search needs
 
 shared-slice-read-end : tie.Need-shared-slice-read-end Inv-loop μ-loop
 shared-slice-read-end c = search (end-there, needs)
-
-sub-keep : tie.Need-sub-keep Inv-loop μ-loop
-sub-keep c = search (end-behind, needs)
 
 shared-slice-read-keep : tie.Need-shared-slice-read-keep Inv-loop μ-loop
 shared-slice-read-keep c = search needs
@@ -60,7 +57,6 @@ put-row-spec =
     loop-holds
     mul-end
     shared-slice-read-end
-    sub-keep
     shared-slice-read-keep
     keep-requires
     add-i

@@ -1,0 +1,73 @@
+-- The whole way of the program, but for input and output: what is left of an export by a rulebook and a reader's class; and the calls that a run makes on the
+-- pieces that it reads.
+-- Assumes nothing.
+use mathlib.Core.Path.{_≡_}
+use mathlib.Core.Bool.{Bool, true}
+use mathlib.Core.List.{List, [], _∷_}
+use Prim.Native.Nat.{ℕ, _≤_}
+use lib.ListN.{length, take}
+use Rattle.classes.specs.declared.Class.{Class}
+use Rattle.refusals.specs.declared.Refusal.{Refusal}
+use Rattle.refusals.specs.Said.{saidRefusal}
+use Rattle.rules.specs.declared.Head.{Head}
+use Rattle.assign.specs.Assigning.{Lent, saidHead, AssignSays}
+use Rattle.records.specs.Rows.{mostFields}
+use Rattle.exports.specs.Rows.{taken}
+use Rattle.exports.specs.Reading.{LastOnly}
+use Rattle.exports.specs.Text.{Verdict, refused, strippedFrom, HeldBackApart}
+use Rattle.columns.specs.Reader.{saidReader, ReaderSays}
+use Rattle.columns.specs.declared.Reader.{Reader}
+use Rattle.columns.specs.Columns.{saidKept, ColumnsSays}
+use Rattle.stripping.specs.Calls.{Calls}
+
+-- The buffers that are lent for the items, their labels and the columns.
+pub record Room : Type 0 where
+  pub labelled : Lent
+  pub columns : List Bool
+
+-- The book is labelled, with its items and labels in `labels`, and the class is one.
+pub record Opens (room : Room) (book class : List ℕ) (h : Head) (labels : Lent) (reader : Class) : Type 0 where
+  pub assigned : AssignSays book (room .labelled) (saidHead h) labels
+  pub known : ReaderSays class (saidReader (Reader.Known reader))
+
+-- These columns of an export are kept: the header is good, and of each of its columns it is said whether the class covers the label of its item.
+pub record KeptIn (room : Room) (book class export : List ℕ) (last : Bool) (kept : List Bool) : Type 0 where
+  pub head : Head
+  pub labels : Lent
+  pub reader : Class
+  pub opens : Opens room book class head labels reader
+  pub count : ℕ
+  pub after : List Bool
+  pub says : ColumnsSays (labels .items) head (labels .labels .levels) (labels .labels .marks) reader export last (room .columns) (saidKept count) after
+  pub is : kept ≡ take count after
+
+-- "The book's own come first; then 12 with place 0 for a reader's class that isn't one", then the header's. Every header has room in the buffer that is lent for
+-- the columns.
+pub data RefusedFirst (room : Room) (book class export : List ℕ) (last : Bool) : Refusal → Type 0 where
+  by-book : {r : Refusal} {labels : Lent} → AssignSays book (room .labelled) (saidRefusal r) labels → RefusedFirst room book class export last r
+  by-class : {r : Refusal} {h : Head} {labels : Lent} → AssignSays book (room .labelled) (saidHead h) labels → ReaderSays class (saidReader (Reader.Refused r)) →
+      RefusedFirst room book class export last r
+  by-header : {r : Refusal} {h : Head} {labels : Lent} {reader : Class} {after : List Bool} → Opens room book class h labels reader → mostFields ≤ length (room .columns) →
+      ColumnsSays (labels .items) h (labels .labels .levels) (labels .labels .marks) reader export last (room .columns) (saidRefusal r) after →
+      RefusedFirst room book class export last r
+
+-- What is left of an export: nothing where the book, the class or the header is refused; else its records, the header first, with the columns that are kept,
+-- up to a bad one.
+pub data LeftOf (room : Room) (book class export : List ℕ) : List ℕ → Verdict → Type 0 where
+  refused-first : {r : Refusal} → RefusedFirst room book class export true r → LeftOf room book class export [] (refused r)
+  stripped : {kept : List Bool} {text : List ℕ} {v : Verdict} → KeptIn room book class export true kept →
+      strippedFrom kept 1 export ≡ record { text = text; verdict = v } → LeftOf room book class export text v
+
+-- The calls of a run on the pieces of an export: `assign`, `reader_class` and, on the first piece, `kept_columns`; and then, from record 1 on, those of `strip`.
+pub data Runs (room : Room) (book class : List ℕ) : List (List ℕ) → List ℕ → Verdict → Type 0 where
+  refuses : {first : List ℕ} {rest : List (List ℕ)} {r : Refusal} (last : Bool) → LastOnly last rest → RefusedFirst room book class first last r →
+      Runs room book class (first ∷ rest) [] (refused r)
+  strips : {first : List ℕ} {rest : List (List ℕ)} {kept : List Bool} {text : List ℕ} {v : Verdict} (last : Bool) → LastOnly last rest →
+      KeptIn room book class first last kept → Calls kept 1 first rest text v → Runs room book class (first ∷ rest) text v
+
+-- Two exports "differ only in columns held back": the same columns are kept of both, and in these their records have the same bytes.
+pub record DifferHeldBack (room : Room) (book class a b : List ℕ) : Type 0 where
+  pub kept : List Bool
+  pub first : KeptIn room book class a true kept
+  pub second : KeptIn room book class b true kept
+  pub apart : HeldBackApart kept (taken true (length kept) a .rows) (taken true (length kept) b .rows)
