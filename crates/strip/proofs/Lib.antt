@@ -1,2 +1,3 @@
--- Why the program stays within its buffers.
+-- Why a run leaves what it should, and what the bytes that are held tell.
+pub mod Runs
 pub mod Inside

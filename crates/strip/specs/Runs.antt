@@ -8,16 +8,18 @@ use Prim.Native.Nat.{ℕ, _≤_}
 use lib.ListN.{length, take}
 use Rattle.classes.specs.declared.Class.{Class}
 use Rattle.refusals.specs.declared.Refusal.{Refusal}
-use Rattle.refusals.specs.Said.{saidRefusal}
+use Rattle.refusals.specs.Said.{Said}
 use Rattle.rules.specs.declared.Head.{Head}
-use Rattle.assign.specs.Assigning.{Lent, saidHead, AssignSays}
+use Rattle.assign.specs.Assigning.{Lent, saidHead, saidAssigned, AssignSays}
+use Rattle.assign.specs.declared.Assigned.{Assigned}
 use Rattle.records.specs.Rows.{mostFields}
 use Rattle.exports.specs.Rows.{taken}
 use Rattle.exports.specs.Reading.{LastOnly}
 use Rattle.exports.specs.Text.{Verdict, refused, strippedFrom, HeldBackApart}
 use Rattle.columns.specs.Reader.{saidReader, ReaderSays}
 use Rattle.columns.specs.declared.Reader.{Reader}
-use Rattle.columns.specs.Columns.{saidKept, ColumnsSays}
+use Rattle.columns.specs.Columns.{saidKept, saidColumns, ColumnsSays}
+use Rattle.columns.specs.declared.Columns.{Columns}
 use Rattle.stripping.specs.Calls.{Calls}
 
 -- The buffers that are lent for the items, their labels and the columns.
@@ -25,31 +27,39 @@ pub record Room : Type 0 where
   pub labelled : Lent
   pub columns : List Bool
 
--- The book is labelled, with its items and labels in `labels`, and the class is one.
-pub record Opens (room : Room) (book class : List ℕ) (h : Head) (labels : Lent) (reader : Class) : Type 0 where
-  pub assigned : AssignSays book (room .labelled) (saidHead h) labels
-  pub known : ReaderSays class (saidReader (Reader.Known reader))
-
--- These columns of an export are kept: the header is good, and of each of its columns it is said whether the class covers the label of its item.
-pub record KeptIn (room : Room) (book class export : List ℕ) (last : Bool) (kept : List Bool) : Type 0 where
+-- A labelled book and a reader's class.
+pub record Opened : Type 0 where
   pub head : Head
   pub labels : Lent
   pub reader : Class
-  pub opens : Opens room book class head labels reader
+
+-- The book is labelled, and the class is one.
+pub record Opens (room : Room) (book class : List ℕ) (o : Opened) : Type 0 where
+  pub assigned : AssignSays book (room .labelled) (saidHead (o .head)) (o .labels)
+  pub known : ReaderSays class (saidReader (Reader.Known (o .reader)))
+
+-- What is said of the columns of an export.
+abbrev pub OpenedSays : Opened → List ℕ → Bool → List Bool → Said → List Bool → Type 0
+OpenedSays o export last before s after =
+    ColumnsSays (o .labels .items) (o .head) (o .labels .labels .levels) (o .labels .labels .marks) (o .reader) export last before s after
+
+-- These columns of an export are kept: the header is good, and of each of its columns it is said whether the class covers the label of its item.
+pub record KeptIn (room : Room) (book class export : List ℕ) (last : Bool) (kept : List Bool) : Type 0 where
+  pub opened : Opened
+  pub opens : Opens room book class opened
   pub count : ℕ
   pub after : List Bool
-  pub says : ColumnsSays (labels .items) head (labels .labels .levels) (labels .labels .marks) reader export last (room .columns) (saidKept count) after
+  pub says : OpenedSays opened export last (room .columns) (saidKept count) after
   pub is : kept ≡ take count after
 
 -- "The book's own come first; then 12 with place 0 for a reader's class that isn't one", then the header's. Every header has room in the buffer that is lent for
 -- the columns.
 pub data RefusedFirst (room : Room) (book class export : List ℕ) (last : Bool) : Refusal → Type 0 where
-  by-book : {r : Refusal} {labels : Lent} → AssignSays book (room .labelled) (saidRefusal r) labels → RefusedFirst room book class export last r
+  by-book : {r : Refusal} {labels : Lent} → AssignSays book (room .labelled) (saidAssigned (Assigned.Refused r)) labels → RefusedFirst room book class export last r
   by-class : {r : Refusal} {h : Head} {labels : Lent} → AssignSays book (room .labelled) (saidHead h) labels → ReaderSays class (saidReader (Reader.Refused r)) →
       RefusedFirst room book class export last r
-  by-header : {r : Refusal} {h : Head} {labels : Lent} {reader : Class} {after : List Bool} → Opens room book class h labels reader → mostFields ≤ length (room .columns) →
-      ColumnsSays (labels .items) h (labels .labels .levels) (labels .labels .marks) reader export last (room .columns) (saidRefusal r) after →
-      RefusedFirst room book class export last r
+  by-header : {r : Refusal} {o : Opened} {after : List Bool} → Opens room book class o → mostFields ≤ length (room .columns) →
+      OpenedSays o export last (room .columns) (saidColumns (Columns.Refused r)) after → RefusedFirst room book class export last r
 
 -- What is left of an export: nothing where the book, the class or the header is refused; else its records, the header first, with the columns that are kept,
 -- up to a bad one.

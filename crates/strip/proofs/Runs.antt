@@ -1,0 +1,138 @@
+-- However an export is cut into pieces, a run writes what is left of the whole export and says what is said of it; there is only one answer; and exports that
+-- differ only in columns held back leave the same bytes. It rests on the same of the calls of `strip` and of `kept_columns`.
+-- Assumes nothing.
+use mathlib.Core.Path.{_≡_, refl, sym, ap, subst, _∙_}
+use mathlib.Core.Bool.{Bool, true, false}
+use mathlib.Core.List.{List, [], _∷_, _++_, append-nil}
+use Prim.Native.Nat.{ℕ}
+use native.Mathlib.Omega.{arith}
+use lib.ListN.{take}
+use Rattle.classes.specs.declared.Class.{Class}
+use Rattle.refusals.specs.declared.Refusal.{Refusal}
+use Rattle.refusals.specs.Said.{Said}
+use Rattle.rules.specs.declared.Head.{Head}
+use Rattle.assign.specs.Assigning.{Lent, saidHead, saidAssigned, AssignSays}
+use Rattle.assign.specs.declared.Assigned.{Assigned}
+use Rattle.assign.proofs.Unique.{assign-unique}
+use Rattle.exports.specs.Reading.{LastOnly, allOf}
+use Rattle.exports.specs.Text.{Verdict, accepted, refused, Outcome, strippedFrom}
+use Rattle.exports.proofs.HeldBack.{held-back-leaves-no-trace}
+use Rattle.columns.specs.Reader.{saidReader, ReaderSays}
+use Rattle.columns.specs.declared.Reader.{Reader}
+use Rattle.columns.specs.Columns.{saidKept, saidMore, saidColumns}
+use Rattle.columns.specs.declared.Columns.{Columns}
+use Rattle.columns.proofs.Unique.{Same, columns-unique, reader-unique}
+use Rattle.columns.proofs.Pieces.{columns-stay}
+use Rattle.stripping.proofs.Calls.{calls-strip}
+use Rattle.strip.specs.Runs.{Room, Opened, Opens, OpenedSays, KeptIn, RefusedFirst, by-book, by-class, by-header, LeftOf, refused-first, stripped, Runs, refuses, strips, DifferHeldBack}
+
+-- What is said of the first piece is said of the whole export.
+whole-says : {o : Opened} {first : List ℕ} {rest : List (List ℕ)} {before : List Bool} {s : Said} {after : List Bool} (last : Bool) → LastOnly last rest
+    → OpenedSays o first last before s after → (s ≡ saidMore → ⊥) → OpenedSays o (first ++ allOf rest) true before s after
+unfolding allOf
+whole-says {o} {first} {rest} {before} {s} {after} true only p h =
+    subst (λ (x : List ℕ). OpenedSays o x true before s after)
+    (sym (ap (λ (ps : List (List ℕ)). first ++ allOf ps) (only .none refl) ∙ append-nil first)) p
+whole-says {first = first} {rest} false only p h = columns-stay true first (allOf rest) p h
+
+whole-refused : {room : Room} {book class first : List ℕ} {rest : List (List ℕ)} {r : Refusal} (last : Bool) → LastOnly last rest
+    → RefusedFirst room book class first last r → RefusedFirst room book class (first ++ allOf rest) true r
+whole-refused last only (by-book p) = by-book p
+whole-refused last only (by-class p q) = by-class p q
+whole-refused last only (by-header p room q) = by-header p room (whole-says last only q (λ e. let z : _≡_ {A = ℕ} 0 1 = cc in omega arith))
+
+-- However an export is cut, a run leaves what is left of the whole.
+pub runs-leave : {room : Room} {book class : List ℕ} {pieces : List (List ℕ)} {text : List ℕ} {v : Verdict} → Runs room book class pieces text v
+    → LeftOf room book class (allOf pieces) text v
+unfolding allOf
+runs-leave (refuses last only p) = refused-first (whole-refused last only p)
+runs-leave (strips last only p calls) =
+    stripped (record {
+      opened = p .opened;
+      opens = p .opens;
+      count = p .count;
+      after = p .after;
+      says = whole-says last only (p .says) (λ e. let z : _≡_ {A = ℕ} 0 1 = cc in omega arith);
+      is = p .is;
+    })
+    (calls-strip calls)
+
+-- A book and a class are opened in one way.
+labelled-same : {book : List ℕ} {lent a b : Lent} {h k : Head} → AssignSays book lent (saidHead h) a → AssignSays book lent (saidHead k) b → (h ≡ k) × (a ≡ b)
+labelled-same {h = h} {k} p q = let same = assign-unique {x = Assigned.Labelled h} {y = Assigned.Labelled k} p q in let e = same .0 in (cc, same .1)
+
+opens-unique : {room : Room} {book class : List ℕ} {o u : Opened} → Opens room book class o → Opens room book class u → o ≡ u
+opens-unique {o = o} {u} p q =
+    let e = reader-unique (p .known) (q .known) in
+    let reader : o .reader ≡ u .reader = cc in
+    let same = labelled-same (p .assigned) (q .assigned) in
+    rw (same .0, same .1, reader)
+
+-- The columns that are kept are the same whenever they are asked for.
+pub kept-unique : {room : Room} {book class export : List ℕ} {last : Bool} {k m : List Bool} → KeptIn room book class export last k → KeptIn room book class export last m → k ≡ m
+kept-unique {room} {export = export} {last} p q =
+    p .is ∙ ap (λ (n : ℕ). take n (p .after)) count ∙ ap (take (q .count)) (same .buffer) ∙ sym (q .is)
+  where
+    moved : OpenedSays (p .opened) export last (room .columns) (saidKept (q .count)) (q .after)
+    moved = subst (λ (o : Opened). OpenedSays o export last (room .columns) (saidKept (q .count)) (q .after)) (opens-unique (q .opens) (p .opens)) (q .says)
+
+    same : Same (Columns.Kept (p .count)) (Columns.Kept (q .count)) (p .after) (q .after)
+    same = columns-unique (p .says) moved
+
+    count : p .count ≡ q .count
+    count = let e = same .answer in cc
+
+never : {book : List ℕ} {lent a b : Lent} {r : Refusal} {h : Head} → AssignSays book lent (saidAssigned (Assigned.Refused r)) a → AssignSays book lent (saidHead h) b → ⊥
+never {r = r} {h} p q = let e = assign-unique {x = Assigned.Refused r} {y = Assigned.Labelled h} p q .0 in let z : _≡_ {A = ℕ} 0 1 = cc in omega arith
+
+no-reader : {class : List ℕ} {r : Refusal} {c : Class} → ReaderSays class (saidReader (Reader.Refused r)) → ReaderSays class (saidReader (Reader.Known c)) → ⊥
+no-reader p q = let e = reader-unique p q in let z : _≡_ {A = ℕ} 0 1 = cc in omega arith
+
+-- Refused first, or columns are kept, and never both; and the refusal is one.
+refused-same : {room : Room} {book class export : List ℕ} {last : Bool} {r s : Refusal} → RefusedFirst room book class export last r → RefusedFirst room book class export last s → r ≡ s
+refused-same (by-book {r} p) (by-book {s} q) = let e = assign-unique {x = Assigned.Refused r} {y = Assigned.Refused s} p q .0 in cc
+refused-same (by-book {r} p) (by-class {h = h} q c) = absurd (never p q)
+refused-same (by-book {r} p) (by-header o room q) = absurd (never p (o .assigned))
+refused-same (by-class p c) (by-book {s} q) = absurd (never q p)
+refused-same (by-class p c) (by-class q d) = let e = reader-unique c d in cc
+refused-same (by-class p c) (by-header o room q) = absurd (no-reader c (o .known))
+refused-same (by-header o room p) (by-book q) = absurd (never q (o .assigned))
+refused-same (by-header o room p) (by-class q d) = absurd (no-reader d (o .known))
+refused-same {room} {export = export} {last} (by-header {r} {o} p x y) (by-header {s} {u} {after} q z w) =
+    let moved = subst (λ (v : Opened). OpenedSays v export last (room .columns) (saidColumns (Columns.Refused s)) after) (opens-unique q p) w in
+    let e = columns-unique {r = Columns.Refused r} {s = Columns.Refused s} y moved .answer in
+    cc
+
+not-kept : {room : Room} {book class export : List ℕ} {last : Bool} {r : Refusal} {k : List Bool} → RefusedFirst room book class export last r → KeptIn room book class export last k → ⊥
+not-kept (by-book p) q = never p (q .opens .assigned)
+not-kept (by-class p c) q = no-reader c (q .opens .known)
+not-kept {room} {export = export} {last} (by-header {r} {o} {after} p x y) q =
+    let moved = subst (λ (v : Opened). OpenedSays v export last (room .columns) (saidColumns (Columns.Refused r)) after) (opens-unique p (q .opens)) y in
+    let e = columns-unique {r = Columns.Refused r} {s = Columns.Kept (q .count)} moved (q .says) .answer in
+    let z : _≡_ {A = ℕ} 0 1 = cc in
+    omega arith
+
+-- A run has only one outcome, however the export was cut.
+pub record SameLeft (x y : List ℕ) (v w : Verdict) : Type 0 where
+  pub text : x ≡ y
+  pub verdict : v ≡ w
+
+same-outcome : {o : Outcome} {x y : List ℕ} {v w : Verdict} → o ≡ record { text = x; verdict = v } → o ≡ record { text = y; verdict = w } → SameLeft x y v w
+same-outcome e f = record { text = ap (λ (o : Outcome). o .text) (sym e ∙ f); verdict = ap (λ (o : Outcome). o .verdict) (sym e ∙ f) }
+
+pub left-unique : {room : Room} {book class export x y : List ℕ} {v w : Verdict} → LeftOf room book class export x v → LeftOf room book class export y w → SameLeft x y v w
+left-unique (refused-first p) (refused-first q) = record { text = refl; verdict = ap refused (refused-same p q) }
+left-unique (refused-first p) (stripped q f) = absurd (not-kept p q)
+left-unique (stripped p e) (refused-first q) = absurd (not-kept q p)
+left-unique {export = export} (stripped p e) (stripped q f) =
+    same-outcome e (ap (λ (k : List Bool). strippedFrom k 1 export) (kept-unique p q) ∙ f)
+
+-- "Accepted exports that differ only in columns held back give the same bytes."
+pub held-back-same : {room : Room} {book class a b x y : List ℕ} → DifferHeldBack room book class a b → LeftOf room book class a x accepted
+    → LeftOf room book class b y accepted → x ≡ y
+held-back-same {a = a} {b} d (stripped p e) (stripped q f) =
+    sym (ap (λ (o : Outcome). o .text) e)
+    ∙ ap (λ (k : List Bool). strippedFrom k 1 a .text) (kept-unique p (d .first))
+    ∙ held-back-leaves-no-trace (d .kept) 1 a b (d .apart)
+    ∙ ap (λ (k : List Bool). strippedFrom k 1 b .text) (kept-unique (d .second) q)
+    ∙ ap (λ (o : Outcome). o .text) f
