@@ -371,7 +371,15 @@ def bad_marks(rng, lines, at):
 
 def other_class(rng, lines, at):
     """Another class of the right form, so that the book stays well formed."""
-    change_class(rng, lines, at, lambda level, marks: class_text((rng.randrange(16), rng.choice([int(b"0" + marks, 16), 0, 1]))))
+    change_class(rng, lines, at, lambda level, marks: class_text((rng.randrange(16), rng.choice([hex_value(marks), 0, 1]))))
+
+
+def hex_value(digits):
+    """The value of hex digits, and 0 where something else stands among them."""
+    try:
+        return int(b"0" + digits, 16)
+    except ValueError:
+        return 0
 
 
 def long_name(rng, lines, at):
