@@ -1,16 +1,17 @@
-// Words of standard input: each is a line of sixteen hex digits.
+// What a call is made of, read from standard input: words, each a line of sixteen hex digits.
 use libc::STDIN_FILENO;
-use scans::Kind;
 use scans::LF;
-use scans::run;
-ghost use Prim.Native.Nat.{_≤_, _<_};
+use tokens::ReadClass;
+use tokens::read_class;
+ghost use Prim.Native.Nat.{_≤_};
 ghost use lib.ListN.{length};
+ghost use Rattle.calls.specs.Sized.{Sized};
 
-// The digits of a word.
-const DIGITS: usize = 16;
+// What the text of a class has in front of its sixteen digits.
+const LEVEL: usize = 2;
 
-// The bytes of a line.
-const LINE: usize = DIGITS + 1;
+// That, the digits, and the LF.
+const LINE: usize = LEVEL + 17;
 
 // One word: its value, whether its line has the form, and whether the input had ended before it.
 pub(crate) struct Word {
@@ -19,20 +20,7 @@ pub(crate) struct Word {
     pub ended: bool,
 }
 
-// How many elements of a buffer a call lends, and whether they were given in the form.
-pub(crate) struct Given {
-    pub room: usize,
-    pub good: bool,
-}
-
-// The room of a buffer and how many of its elements are given.
-struct Sizes {
-    room: usize,
-    count: usize,
-    good: bool,
-}
-
-// The six numbers of a call.
+// The six numbers of a call, and whether they have the form.
 pub(crate) struct Numbers {
     pub a: u64,
     pub b: u64,
@@ -40,141 +28,139 @@ pub(crate) struct Numbers {
     pub d: u64,
     pub e: u64,
     pub f: u64,
+    pub good: bool,
 }
 
-// The next word.
+// How many elements of a buffer a call lends, and whether they were given in the form.
+pub(crate) struct Lent {
+    pub room: usize,
+    pub good: bool,
+}
+
+// How many elements of a buffer a call lends and how many of these it gives, and whether that may be.
+struct Sizes {
+    room: usize,
+    count: usize,
+    good: bool,
+}
+
+// The next word. Its digits are read as the marks of a class.
 pub(crate) fn word_in() -> Word {
     let mut line = [0u8; LINE];
-    let n = io::read_full(STDIN_FILENO, &mut line);
-    Word {
-        value: value(&line),
-        good: is_line(&line, n),
-        ended: n == 0,
+    let front: [u8; LEVEL] = [b'0', b'/'];
+    line[0] = front[0];
+    line[1] = front[1];
+    let n = io::read_full(STDIN_FILENO, &mut line[LEVEL..]);
+    let ended = n == 0;
+    match read_class(&line, 0) {
+        ReadClass::Found(class, _) => Word {
+            value: class.marks,
+            good: line[LINE - 1] == LF,
+            ended,
+        },
+        ReadClass::Bad => Word {
+            value: 0,
+            good: false,
+            ended,
+        },
     }
 }
 
-// Whether so many bytes were read, and they are sixteen hex digits and an LF.
-fn is_line(line: &[u8; LINE], n: usize) -> bool {
-    if n != LINE {
-        return false;
-    }
-    if run(Kind::Hex, line, 0) != DIGITS {
-        return false;
-    }
-    line[DIGITS] == LF
-}
-
-// The value of sixteen hex digits.
-fn value(line: &[u8; LINE]) -> u64 {
-    let mut v: u64 = 0;
-    for i in 0..DIGITS {
-        v = (v % 0x1000_0000_0000_0000) * 16 + digit(line[i]);
-    }
-    v
-}
-
-// What a hex digit is worth.
-fn digit(b: u8) -> u64
-    ensures { λ r. ⌜ r < 16 ⌝ }
-{
-    match b {
-        b'0'..=b'9' => (b - b'0') as u64,
-        b'a'..=b'f' => (b - b'a' + 10) as u64,
-        _ => 0,
-    }
-}
-
-// The six numbers of a call.
+// The numbers of a call.
 pub(crate) fn numbers_in() -> Numbers {
+    let a = word_in();
+    let b = word_in();
+    let c = word_in();
+    let d = word_in();
+    let e = word_in();
+    let f = word_in();
     Numbers {
-        a: word_in().value,
-        b: word_in().value,
-        c: word_in().value,
-        d: word_in().value,
-        e: word_in().value,
-        f: word_in().value,
+        a: a.value,
+        b: b.value,
+        c: c.value,
+        d: d.value,
+        e: e.value,
+        f: f.value,
+        good: a.good & b.good & c.good & d.good & e.good & f.good,
     }
 }
 
-// The sizes of a buffer that has at most so many elements.
+// The sizes of a buffer that has at most so many elements. None where they may not be.
 fn sizes_in(most: usize) -> Sizes
-    ensures { λ r. ⌜ r .room ≤ most ⌝ }
+    ensures { λ r. ⌜ Sized (r .count) (r .room) most ⌝ }
 {
     let room = word_in();
     let count = word_in();
     if (most as u64) < room.value {
-        return Sizes {
-            room: 0,
-            count: 0,
-            good: false,
-        };
+        return no_sizes();
+    }
+    if room.value < count.value {
+        return no_sizes();
     }
     Sizes {
         room: room.value as usize,
         count: count.value as usize,
-        good: room.good & count.good & (count.value <= room.value),
+        good: room.good & count.good,
     }
 }
 
-// Element i of a buffer of which so many are given: the next word, or zero behind them.
-fn element(i: usize, count: usize) -> Word {
-    if i < count {
-        return word_in();
-    }
-    Word {
-        value: 0,
-        good: true,
-        ended: false,
+fn no_sizes() -> Sizes
+    ensures { λ r. ⌜ Sized (r .count) (r .room) 0 ⌝ }
+{
+    Sizes {
+        room: 0,
+        count: 0,
+        good: false,
     }
 }
 
-// A buffer of bytes.
-pub(crate) fn bytes_in(buf: &mut [u8]) -> Given
+// The bytes of a buffer.
+pub(crate) fn bytes_in(buf: &mut [u8]) -> Lent
     ensures { λ r. ⌜ r .room ≤ length (now (buf .exit)) ⌝ }
 {
     let sizes = sizes_in(buf.len());
-    let room = sizes.room;
     let mut good = sizes.good;
     let mut i = 0;
-    while i < room {
-        let word = element(i, sizes.count);
+    while i < sizes.count {
+        let word = word_in();
         buf[i] = (word.value % 256) as u8;
-        good = good & word.good;
+        good = good & word.good & (word.value < 256);
         i += 1;
     }
-    Given { room, good }
+    let room = sizes.room;
+    Lent { room, good }
 }
 
-// A buffer of words.
-pub(crate) fn words_in(buf: &mut [u64]) -> Given
+// The words of a buffer.
+pub(crate) fn words_in(buf: &mut [u64]) -> Lent
     ensures { λ r. ⌜ r .room ≤ length (now (buf .exit)) ⌝ }
 {
     let sizes = sizes_in(buf.len());
-    let room = sizes.room;
     let mut good = sizes.good;
     let mut i = 0;
-    while i < room {
-        let word = element(i, sizes.count);
+    while i < sizes.count {
+        let word = word_in();
         buf[i] = word.value;
         good = good & word.good;
         i += 1;
     }
-    Given { room, good }
+    let room = sizes.room;
+    Lent { room, good }
 }
 
-// A buffer of bools.
-pub(crate) fn bools_in(buf: &mut [bool]) -> Given
+// The bools of a buffer.
+pub(crate) fn bools_in(buf: &mut [bool]) -> Lent
     ensures { λ r. ⌜ r .room ≤ length (now (buf .exit)) ⌝ }
 {
     let sizes = sizes_in(buf.len());
-    let room = sizes.room;
     let mut good = sizes.good;
     let mut i = 0;
-    while i < room {
-        let word = element(i, sizes.count);
+    while i < sizes.count {
+        let word = word_in();
         buf[i] = word.value != 0;
         good = good & word.good;
         i += 1;
     }
-    Given { room, good }
+    let room = sizes.room;
+    Lent { room, good }
 }

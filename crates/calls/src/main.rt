@@ -1,27 +1,136 @@
+// Makes the calls that standard input has, and prints the answer of each and what it leaves in the lent buffers. tests/calls/README.md says how a call
+// and an answer are written, and which routine has which number.
+mod answer;
 mod input;
+mod label_calls;
 mod output;
+mod token_calls;
 
+use answer::Answer;
+use input::Numbers;
 use input::bools_in;
 use input::bytes_in;
 use input::numbers_in;
 use input::word_in;
 use input::words_in;
+use libc::STDOUT_FILENO;
+use output::answer_out;
 use output::bools_out;
 use output::bytes_out;
-use output::number_out;
 use output::words_out;
 
+// The most elements that a call lends of each buffer.
+const MOST_TEXT: usize = 40000;
+
+const MOST_ITEMS: usize = 5000;
+
+const MOST_OUT: usize = 33000;
+
+const MOST_RULES: usize = 14000;
+
+const MOST_LABELS: usize = 300;
+
+// How many routines there are.
+const ROUTINES: u64 = 28;
+
+// The turns are counted down from a number that no run uses up, since a proved loop has to end.
 fn main() {
-    let w = word_in();
-    let n = numbers_in();
-    let mut text = [0u8; 33000];
+    let mut turns = u64::MAX;
+    while turns > 0 {
+        let routine = word_in();
+        if routine.ended {
+            return;
+        }
+        let numbers = numbers_in();
+        if !lend(routine.value, numbers, routine.good & numbers.good) {
+            io::write_all(STDOUT_FILENO, b"bad call\n");
+            return;
+        }
+        turns -= 1;
+    }
+}
+
+// Reads what a call lends, and makes it. Answers whether it is a call.
+fn lend(routine: u64, numbers: Numbers, good: bool) -> bool {
+    let mut text = [0u8; MOST_TEXT];
+    let mut items = [0u8; MOST_ITEMS];
+    let mut out = [0u8; MOST_OUT];
+    let mut rules = [0u64; MOST_RULES];
+    let mut levels = [0u64; MOST_LABELS];
+    let mut marks = [0u64; MOST_LABELS];
+    let mut kept = [false; MOST_LABELS];
     let t = bytes_in(&mut text);
-    let mut rules = [0u64; 14000];
+    let i = bytes_in(&mut items);
+    let o = bytes_in(&mut out);
     let r = words_in(&mut rules);
-    let mut kept = [false; 300];
+    let l = words_in(&mut levels);
+    let m = words_in(&mut marks);
     let k = bools_in(&mut kept);
-    number_out(w.value);
-    bytes_out(&text[..t.room]);
-    words_out(&rules[..r.room]);
-    bools_out(&kept[..k.room]);
+    let of_form = good & t.good & i.good & o.good & r.good & l.good & m.good & k.good;
+    if !of_form {
+        return false;
+    }
+    if ROUTINES <= routine {
+        return false;
+    }
+    let text_room = t.room;
+    let items_room = i.room;
+    let out_room = o.room;
+    let rules_room = r.room;
+    let levels_room = l.room;
+    let marks_room = m.room;
+    let kept_room = k.room;
+    call(
+        routine,
+        numbers,
+        &text[..text_room],
+        &mut items[..items_room],
+        &mut out[..out_room],
+        &mut rules[..rules_room],
+        &mut levels[..levels_room],
+        &mut marks[..marks_room],
+        &mut kept[..kept_room],
+    );
+    true
+}
+
+// Makes a call, and prints its answer and the buffers after it.
+fn call(
+    routine: u64,
+    numbers: Numbers,
+    text: &[u8],
+    items: &mut [u8],
+    out: &mut [u8],
+    rules: &mut [u64],
+    levels: &mut [u64],
+    marks: &mut [u64],
+    kept: &mut [bool],
+) {
+    answer_out(made(routine, numbers, text, items, out, rules, levels, marks, kept));
+    bytes_out(text);
+    bytes_out(items);
+    bytes_out(out);
+    words_out(rules);
+    words_out(levels);
+    words_out(marks);
+    bools_out(kept);
+}
+
+// What a call answers.
+fn made(
+    routine: u64,
+    numbers: Numbers,
+    text: &[u8],
+    items: &mut [u8],
+    out: &mut [u8],
+    rules: &mut [u64],
+    levels: &mut [u64],
+    marks: &mut [u64],
+    kept: &mut [bool],
+) -> Answer {
+    match routine {
+        11..=16 => label_calls::call(routine, numbers, rules, levels, marks),
+        20..=24 => token_calls::reading(routine, numbers, text),
+        _ => token_calls::putting(routine, numbers, items, out),
+    }
 }

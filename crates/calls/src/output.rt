@@ -1,67 +1,87 @@
 // Words of standard output: each is a line of sixteen hex digits.
+use super::answer::Answer;
 use libc::STDOUT_FILENO;
 use puts::put;
 use scans::LF;
 ghost use Prim.Native.Nat.{_≤_};
 
+// The bytes of a line.
+const LINE: usize = 17;
+
 // The bytes that are written at once: whole lines.
-const CHUNK: usize = 17 * 240;
+const CHUNK: usize = LINE * 240;
 
 // Puts the line of a word at a place of a chunk, which is written first where it is full. Answers the place behind the line.
 fn line(word: u64, chunk: &mut [u8; CHUNK], at: usize) -> usize
     ensures { λ r. ⌜ r ≤ 4080 ⌝ }
 {
-    let mut text = [LF; 17];
     let mut digits = [0u8; 16];
     io::hex(word, 16, &mut digits);
+    let mut text = [LF; LINE];
     put(&digits, &mut text, 0);
-    let next = put(&text, chunk, at);
-    if next <= CHUNK {
-        return next;
+    if at <= CHUNK - LINE {
+        put(&text, chunk, at);
+        return at + LINE;
     }
     io::write_all(STDOUT_FILENO, chunk);
     put(&text, chunk, 0);
-    17
+    LINE
 }
 
-// A number.
-pub(crate) fn number_out(word: u64) {
-    let mut chunk = [0u8; CHUNK];
-    let end = line(word, &mut chunk, 0);
-    io::write_all(STDOUT_FILENO, &chunk[..end]);
+// The refusal's number, its place or which success it is, and the values, their number first.
+pub(crate) fn answer_out(answer: Answer) {
+    word_out(answer.refusal);
+    word_out(answer.which);
+    let values = answer.values;
+    words_out(front(&values, answer.count));
 }
 
-// A buffer of bytes: its room, and each byte.
-pub(crate) fn bytes_out(values: &[u8]) {
+// The first words, or all where there are fewer.
+fn front(words: &[u64], n: usize) -> &[u64] {
+    if words.len() < n {
+        return words;
+    }
+    &words[0..n]
+}
+
+// A word.
+fn word_out(word: u64) {
     let mut chunk = [0u8; CHUNK];
-    let mut at = line(values.len() as u64, &mut chunk, 0);
+    line(word, &mut chunk, 0);
+    io::write_all(STDOUT_FILENO, &chunk[..LINE]);
+}
+
+// A buffer of bytes: its room, and each of them.
+pub(crate) fn bytes_out(bytes: &[u8]) {
+    let mut chunk = [0u8; CHUNK];
+    let mut at = line(bytes.len() as u64, &mut chunk, 0);
     let mut i = 0;
-    while i < values.len() {
-        at = line(wide(values[i]), &mut chunk, at);
+    while i < bytes.len() {
+        at = line(wide(bytes[i]), &mut chunk, at);
         i += 1;
     }
     io::write_all(STDOUT_FILENO, &chunk[..at]);
 }
 
 // A buffer of words.
-pub(crate) fn words_out(values: &[u64]) {
+pub(crate) fn words_out(words: &[u64]) {
     let mut chunk = [0u8; CHUNK];
-    let mut at = line(values.len() as u64, &mut chunk, 0);
+    let mut at = line(words.len() as u64, &mut chunk, 0);
     let mut i = 0;
-    while i < values.len() {
-        at = line(values[i], &mut chunk, at);
+    while i < words.len() {
+        at = line(words[i], &mut chunk, at);
         i += 1;
     }
     io::write_all(STDOUT_FILENO, &chunk[..at]);
 }
 
-// A buffer of bools: 1 for yes.
-pub(crate) fn bools_out(values: &[bool]) {
+// A buffer of bools, 1 for yes.
+pub(crate) fn bools_out(bools: &[bool]) {
     let mut chunk = [0u8; CHUNK];
-    let mut at = line(values.len() as u64, &mut chunk, 0);
+    let mut at = line(bools.len() as u64, &mut chunk, 0);
     let mut i = 0;
-    while i < values.len() {
-        at = line(bit(values[i]), &mut chunk, at);
+    while i < bools.len() {
+        at = line(bit(bools[i]), &mut chunk, at);
         i += 1;
     }
     io::write_all(STDOUT_FILENO, &chunk[..at]);
