@@ -2,8 +2,6 @@
 -- only one answer; and that every place is printed whole.
 pub mod Putting
 pub mod SameBooks
-pub mod WholeRoom
 pub mod Says
 pub mod Short
 pub mod Unique
-pub mod Places

@@ -34,7 +34,7 @@ use Rattle.answers.specs.Answering as answering
 use Rattle.answers.specs.Answering.{refusalText, BookSays, AnswerSays, RoutineSays}
 use Rattle.answers.specs.Inner.{Whole, BookReady, LabelsReady, Front, FrontIs}
 use Rattle.answers.proofs.SameBooks.{book-moved}
-use Rattle.answers.proofs.WholeRoom.{answer-whole, tables-read, read-tables}
+use Rattle.reader.proofs.Books.{answer-whole, tables-read, read-tables}
 
 -- Right labels are written, whatever the buffer held.
 abbrev Wrote : List ℕ → Written → List ℕ → Type 0

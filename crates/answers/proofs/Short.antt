@@ -18,7 +18,7 @@ use Rattle.writer.specs.declared.Written.{Written}
 use Rattle.writer.proofs.Lengths.{labels-short}
 use Rattle.answers.specs.Answering.{countLine, refusedKey, atKey, refusalText, BookSays, unlabelled, labelled, AnswerSays, unread, book, RoutineSays}
 use Rattle.answers.proofs.Putting.{line-most}
-use Rattle.answers.proofs.WholeRoom.{read-tables}
+use Rattle.reader.proofs.Books.{read-tables}
 
 refusal-short : (number place : ℕ) → length (refusalText number place) ≤ mostText
 unfolding refusalText

@@ -17,7 +17,7 @@ use Rattle.writer.specs.declared.Written.{Written}
 use Rattle.writer.proofs.Unique.{Same}
 use Rattle.answers.specs.Answering.{refusalText, BookSays, unlabelled, labelled, AnswerSays, unread, book, RoutineSays}
 use Rattle.answers.proofs.SameBooks.{labels-text-same}
-use Rattle.answers.proofs.WholeRoom.{read-tables}
+use Rattle.reader.proofs.Books.{read-tables}
 
 -- Of a book with an accepted table one text is printed.
 pub book-unique : {t : List ℕ} {n : ℕ} {w : List ℕ} {m : ℕ} {x y : List ℕ} → TableAccepted w m n → BookSays t n w m x → BookSays t n w m y → x ≡ y

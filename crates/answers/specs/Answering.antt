@@ -1,11 +1,8 @@
 -- "The labelling program": the text that it prints for a text that it reads, and what the routine that makes it answers.
 -- Assumes nothing.
 use mathlib.Core.Path.{_≡_}
-use mathlib.Core.Bool.{cond}
 use mathlib.Core.List.{List, [], _∷_, _++_}
 use Prim.Native.Nat.{ℕ}
-use lib.Dec.{ltb}
-use lib.ListN.{length}
 use Rattle.meaning.specs.Classes.{classes, classParts}
 use Rattle.meaning.specs.Labelling.{Wanted}
 use Rattle.meaning.specs.Parts.{Refused}
@@ -15,9 +12,8 @@ use Rattle.keys.specs.Keys.{keyText}
 use Rattle.keys.specs.declared.Key.{Key}
 use Rattle.tokens.specs.Tokens.{countText}
 use Rattle.refusals.specs.Numbers.{faultNumber}
-use Rattle.refusals.specs.Sizes.{mostText}
 use Rattle.refusals.specs.declared.Fault.{Fault}
-use Rattle.reader.specs.Reading.{readText}
+use Rattle.reader.specs.Reading.{readText, readWhole}
 use Rattle.reader.specs.declared.ReadBook.{ReadBook}
 use Rattle.writer.specs.Texts.{formLine, labelsText}
 use Rattle.writer.specs.Writing.{CopySays}
@@ -37,10 +33,6 @@ atKey = 97 ∷ 116 ∷ 61 ∷ []
 -- "On a refusal it prints `form=1`, `refused=` with the number, `at=` with the place, and `end=3`."
 unfoldable pub refusalText : ℕ → ℕ → List ℕ
 refusalText number place = formLine ++ countLine refusedKey number ++ countLine atKey place ++ countLine (keyText Key.End) 3
-
--- "Reading: 1, then the lines". The tables have room for every book, so that reading never lacks room.
-abbrev pub readWhole : List ℕ → ReadBook
-readWhole l = cond (ltb mostText (length l)) (ReadBook.Refused Fault.TooLong 0) (readText l .answer)
 
 -- What is printed of a book with n items, whose names are in the table t, and m rules, in the table w: the refusal of the part that is refused, or
 -- "`form=1`, one line `label=NAME:CLASS` for each item in book order, and `end=COUNT`" with the wanted labels.

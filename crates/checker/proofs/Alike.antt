@@ -6,53 +6,67 @@ use Prim.Native.Nat.{ℕ, zero, suc, _+_, _*_, _≤_, _<_}
 use native.Mathlib.Omega.{arith}
 use lib.ListN.{length}
 use Rattle.laws.specs.First.{FirstFailing}
+use Rattle.refusals.specs.Said.{Said}
+use Rattle.rules.specs.declared.Head.{Head}
 use Rattle.rules.specs.declared.Rule.{Rule}
 use Rattle.rules.specs.Table.{ruleWords, ruleAt}
 use Rattle.accepts.specs.Accepted.{RuleAccepted, Standing, RulesAccepted, TableAccepted}
 use Rattle.checker.specs.declared.Checked.{Checked}
-use Rattle.checker.specs.Answer.{Said, said}
+use Rattle.checker.specs.Answer.{saidChecked}
 use Rattle.checker.specs.Checking.{RuleMet, CheckSays, bad-table, no-room, bad-label, first-unmet, all-met}
-use Rattle.checker.specs.List.{listAt, ListAccepted, SameRules, decodedFrom}
+use Rattle.checker.specs.List.{listAt, ListAccepted, SameAsList, decodedFrom}
 use Rattle.checker.proofs.Unique.{check-unique}
 
--- The first m rules of two are equal.
-module _ {at other : ℕ → Rule} {m : ℕ} (same : (r : ℕ) → r < m → at r ≡ other r) where
-  standing-alike : {n : ℕ} (r : ℕ) → r < m → Standing at m n r → Standing other m n r
-  standing-alike {n} r s x = record {
-    accepted = subst (RuleAccepted n) (same r s) (x .accepted);
+-- The rules of two are equal below a count: one is met where the other is.
+module _ {m : ℕ} {at other : ℕ → Rule} (same : (r : ℕ) → r < m → at r ≡ other r) {levels marks : List ℕ} where
+  met-alike : (r : ℕ) → r < m → RuleMet at levels marks r → RuleMet other levels marks r
+  met-alike r s x = record { meets = rw (← same r s) (x .meets) }
+
+  unmet-alike : (r : ℕ) → r < m → (RuleMet at levels marks r → ⊥) → RuleMet other levels marks r → ⊥
+  unmet-alike r s bad x = bad (record { meets = rw (same r s) (x .meets) })
+
+  first-alike : {r : ℕ} → FirstFailing (RuleMet at levels marks) m r → FirstFailing (RuleMet other levels marks) m r
+  first-alike {r} p = record {
+    below = p .below;
+    before = record { each = λ j l. met-alike j (omega (arith, p .below)) (p .before .each j l) };
+    fails = unmet-alike r (p .below) (p .fails);
+  }
+
+-- The rules of two are equal under one head.
+module _ {h : Head} {at other : ℕ → Rule} (same : (r : ℕ) → r < h .rules → at r ≡ other r) where
+  standing-alike : (r : ℕ) → r < h .rules → Standing h at r → Standing h other r
+  standing-alike r s x = record {
+    accepted = subst (RuleAccepted (h .items)) (same r s) (x .accepted);
     order = λ t. rw (← same r s, ← same (suc r) t) (x .order t);
   }
 
-  accepted-alike : {n : ℕ} → RulesAccepted at m n → RulesAccepted other m n
+  accepted-alike : RulesAccepted h at → RulesAccepted h other
   accepted-alike x = record { items = x .items; rules = x .rules; each = λ r s. standing-alike r s (x .each r s) }
 
-  module _ {levels marks : List ℕ} where
-    met-alike : (r : ℕ) → r < m → RuleMet at levels marks r → RuleMet other levels marks r
-    met-alike r s x = record { meets = rw (← same r s) (x .meets) }
+  -- What is said of the one is said of the other, if the one is accepted exactly if the other is.
+  pub says-alike : {levels marks : List ℕ} {A B : Type 0} → (A → B) → (B → A) → {s : Said} → CheckSays A h at levels marks s → CheckSays B h other levels marks s
+  says-alike f g (bad-table x) = bad-table (λ b. x (g b))
+  says-alike f g (no-room x) = no-room (record { accepted = f (x .accepted); short = x .short })
+  says-alike f g (bad-label x) = bad-label (record { accepted = f (x .accepted); room = x .room; label = x .label })
+  says-alike f g (first-unmet x) =
+      first-unmet (record { accepted = f (x .accepted); room = x .room; labels = x .labels; rule = first-alike same (x .rule) })
+  says-alike f g (all-met x) = all-met (record {
+    accepted = f (x .accepted);
+    room = x .room;
+    labels = x .labels;
+    rules = record { each = λ r s. met-alike same r s (x .rules .each r s) };
+  })
 
-    unmet-alike : (r : ℕ) → r < m → (RuleMet at levels marks r → ⊥) → RuleMet other levels marks r → ⊥
-    unmet-alike r s bad x = bad (record { meets = rw (same r s) (x .meets) })
-
-    -- What is said of the one is said of the other, if the one is accepted exactly if the other is.
-    pub says-alike : {n : ℕ} {A B : Type 0} → (A → B) → (B → A) → {s : Said} → CheckSays A at m n levels marks s → CheckSays B other m n levels marks s
-    says-alike f g (bad-table x) = bad-table (λ b. x (g b))
-    says-alike f g (no-room x) = no-room (record { accepted = f (x .accepted); short = x .short })
-    says-alike f g (bad-label x) = bad-label (record { accepted = f (x .accepted); room = x .room; label = x .label })
-    says-alike f g (first-unmet {r} x) = first-unmet (record { accepted = f (x .accepted); room = x .room; labels = x .labels; rule = first r (x .rule) })
-      where
-        first : (r : ℕ) → FirstFailing (RuleMet at levels marks) m r → FirstFailing (RuleMet other levels marks) m r
-        first r p = record { below = p .below; before = record { each = λ j l. met-alike j (omega (arith, p .below)) (p .before .each j l) }; fails = unmet-alike r (p .below) (p .fails) }
-    says-alike f g (all-met x) = all-met (record { accepted = f (x .accepted); room = x .room; labels = x .labels; rules = record { each = λ r s. met-alike r s (x .rules .each r s) } })
-
-module _ {t : List ℕ} {rules : List Rule} {m n : ℕ} (same : SameRules t rules m) where
-  tabled : ListAccepted rules m n → TableAccepted t m n
+module _ {h : Head} {t : List ℕ} {rules : List Rule} (same : SameAsList h t rules) where
+  tabled : ListAccepted h rules → TableAccepted h t
   tabled x = record { room = same .tabled (x .room); accepted = accepted-alike (λ r s. sym (same .each r s)) (x .accepted) }
 
-  listed : TableAccepted t m n → ListAccepted rules m n
+  listed : TableAccepted h t → ListAccepted h rules
   listed x = record { room = same .listed (x .room); accepted = accepted-alike (same .each) (x .accepted) }
 
   -- "with equal answers": on equal rules `check` and `check_list` answer the same.
-  pub check-alike : {levels marks : List ℕ} {a b : Checked} → CheckSays (TableAccepted t m n) (ruleAt t) m n levels marks (said a) → CheckSays (ListAccepted rules m n) (listAt rules) m n levels marks (said b) → a ≡ b
+  pub check-alike : {levels marks : List ℕ} {a b : Checked} → CheckSays (TableAccepted h t) h (ruleAt t) levels marks (saidChecked a)
+      → CheckSays (ListAccepted h rules) h (listAt rules) levels marks (saidChecked b) → a ≡ b
   check-alike x y = check-unique (says-alike (same .each) listed tabled x) y
 
 -- A flat table decoded rule by rule has its rules.
@@ -65,9 +79,9 @@ decoded-at t r zero j s = absurd (omega arith)
 decoded-at t r (suc k) zero s = ap (ruleAt t) (omega arith)
 decoded-at t r (suc k) (suc j) s = decoded-at t (suc r) k j (omega arith) ∙ ap (ruleAt t) (omega arith)
 
-pub decoded-same : (t : List ℕ) (m : ℕ) → m * ruleWords ≤ length t → SameRules t (decodedFrom t 0 m) m
-decoded-same t m room = record {
-  listed = λ s. let e = decoded-length t 0 m in omega arith;
+pub decoded-same : (h : Head) (t : List ℕ) → h .rules * ruleWords ≤ length t → SameAsList h t (decodedFrom t 0 (h .rules))
+decoded-same h t room = record {
+  listed = λ s. let e = decoded-length t 0 (h .rules) in omega arith;
   tabled = λ s. room;
-  each = λ r s. sym (decoded-at t 0 m r s ∙ ap (ruleAt t) (omega arith));
+  each = λ r s. sym (decoded-at t 0 (h .rules) r s ∙ ap (ruleAt t) (omega arith));
 }

@@ -1,19 +1,12 @@
--- What an answer of checking says by document 01's numbers.
+-- What an answer of checking says.
 -- Assumes nothing.
-use Prim.Native.Nat.{ℕ}
+use mathlib.Core.List.{[], _∷_}
+use Rattle.refusals.specs.Said.{Said, success, saidRefusal}
 use Rattle.checker.specs.declared.Checked.{Checked}
-use Rattle.checker.specs.declared.Checked.the-variants.{Met, Unmet, BadTable, NoRoom, BadLabel}
+use Rattle.checker.specs.declared.Checked.the-variants.{Met, Unmet, Refused}
 
--- "met", or "unmet" with the number, from 0 in table order, of a rule; or a refusal with its number and its place.
-pub data Said : Type 0 where
-  met : Said
-  unmet : ℕ → Said
-  refused : ℕ → ℕ → Said
-
--- 10 BAD_TABLE at place 0, 11 NO_ROOM at place 0, 12 BAD_LABEL at the item, from 0.
-abbrev pub said : Checked → Said
-said Met = met
-said (Unmet r) = unmet r
-said BadTable = refused 10 0
-said NoRoom = refused 11 0
-said (BadLabel i) = refused 12 i
+-- ""met", or "unmet" with the number, from 0 in table order, of the first rule not met"; or a refusal.
+abbrev pub saidChecked : Checked → Said
+saidChecked Met = success 0 []
+saidChecked (Unmet r) = success 1 (r ∷ [])
+saidChecked (Refused r) = saidRefusal r

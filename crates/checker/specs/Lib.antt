@@ -1,7 +1,7 @@
--- What the contracts of `checker` cite: an answer's number and place, which answer checking gives, of a table or of a list; and what the walk over a
--- list knows.
+-- What the contracts of `checker` cite: what an answer says, and which answer checking gives, of a table or of a list. The files Inner.. are what only its
+-- inner functions promise: judging accepted rules, and what the walk over a list knows.
 pub mod Answer
 pub mod Checking
-pub mod Judging
 pub mod List
-pub mod Walking
+pub mod InnerJudging
+pub mod InnerWalking

@@ -4,6 +4,7 @@ use mathlib.Core.Path.{_≡_}
 use mathlib.Core.List.{List, [], _∷_}
 use Prim.Native.Nat.{ℕ, zero, suc, _*_, _≤_, _<_}
 use lib.ListN.{length, getD}
+use Rattle.rules.specs.declared.Head.{Head}
 use Rattle.rules.specs.declared.Rule.{Rule}
 use Rattle.rules.specs.Table.{ruleWords, ruleAt}
 use Rattle.accepts.specs.Accepted.{RulesAccepted}
@@ -12,16 +13,16 @@ use Rattle.accepts.specs.Accepted.{RulesAccepted}
 abbrev pub listAt : List Rule → ℕ → Rule
 listAt rules r = getD rules r (ruleAt [] 0)
 
--- Rules 0 to m - 1 of a book of n items hold to every size, range and order, and the list is not shorter than its count.
-pub record ListAccepted (rules : List Rule) (m n : ℕ) : Type 0 where
-  pub room : m ≤ length rules
-  pub accepted : RulesAccepted (listAt rules) m n
+-- The rules, under the head of their book, hold to every size, range and order, and the list is not shorter than its count.
+pub record ListAccepted (h : Head) (rules : List Rule) : Type 0 where
+  pub room : h .rules ≤ length rules
+  pub accepted : RulesAccepted h (listAt rules)
 
--- The first m rules of a flat table and of a list are equal, and one is shorter than its count only if the other is.
-pub record SameRules (t : List ℕ) (rules : List Rule) (m : ℕ) : Type 0 where
-  pub listed : m * ruleWords ≤ length t → m ≤ length rules
-  pub tabled : m ≤ length rules → m * ruleWords ≤ length t
-  pub each : (r : ℕ) → r < m → ruleAt t r ≡ listAt rules r
+-- A flat table and a list have equal rules up to their count, and one is shorter than it only if the other is.
+pub record SameAsList (h : Head) (t : List ℕ) (rules : List Rule) : Type 0 where
+  pub listed : h .rules * ruleWords ≤ length t → h .rules ≤ length rules
+  pub tabled : h .rules ≤ length rules → h .rules * ruleWords ≤ length t
+  pub each : (r : ℕ) → r < h .rules → ruleAt t r ≡ listAt rules r
 
 -- k rules of a flat table from rule r on, decoded rule by rule.
 abbrev pub decodedFrom : List ℕ → ℕ → ℕ → List Rule

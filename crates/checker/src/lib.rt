@@ -5,33 +5,74 @@ pub mod list;
 
 use labels::first_bad;
 use labels::has_room;
+use refusals::Fault;
+use refusals::Refusal;
 use rules::CAP;
 use rules::FLOOR;
+use rules::Head;
 use rules::Rule;
+ghost use mathlib.Core.Path.{_≡_};
 ghost use Rattle.laws.specs.Tells.{Tells};
+ghost use Rattle.laws.specs.First.{Sought};
 ghost use Rattle.meaning.specs.Rules.{Met};
 ghost use Rattle.meaning.specs.Classes.{classes};
-ghost use Rattle.laws.specs.First.{Sought};
-ghost use Rattle.rules.specs.Record.{meaningOf};
 ghost use Rattle.labels.specs.Labels.{labelsIn};
+ghost use Rattle.rules.specs.Record.{meaningOf};
 ghost use Rattle.rules.specs.Table.{ruleAt};
 ghost use Rattle.accepts.specs.Accepted.{TableAccepted};
-ghost use Rattle.checker.specs.Answer.{said};
+ghost use Rattle.checker.specs.Answer.{saidChecked};
 ghost use Rattle.checker.specs.Checking.{RuleMet, CheckSays};
-ghost use Rattle.checker.specs.Judging.{Judges};
+ghost use Rattle.checker.specs.InnerJudging.{refusedAt, Judges};
 
-// What checking answers: every rule is met, or the number of the first one that is not, from 0 in table order; or why it refuses, for a bad
-// label with the number of the item.
+// What checking answers: every rule is met, or the number of the first one that is not, from 0 in table order; or a refusal, which for a bad
+// label has the number of the item as its place.
 pub enum Checked {
     Met,
     Unmet(usize),
-    BadTable,
-    NoRoom,
-    BadLabel(usize),
+    Refused(Refusal),
+}
+
+// BadTable where the table is not accepted under this head; NoRoom where there are fewer labels than items; BadLabel at the first of the items
+// whose level is over 15; else Unmet with the first of the rules that the labels do not meet, or Met.
+pub fn check(rules: &[u64], head: Head, levels: &[u64], marks: &[u64]) -> Checked
+    ensures { λ r. ⌜ CheckSays (TableAccepted head (now (rules .entry))) head (ruleAt (now (rules .entry))) (now (levels .entry)) (now (marks .entry)) (saidChecked r) ⌝ }
+{
+    if !accepts::rules_ok(rules, head) {
+        return refused(Fault::BadTable, 0);
+    }
+    let unmet = first_unmet(rules, head.rules, levels, marks);
+    judged(unmet, head, levels, marks)
+}
+
+// What is answered of accepted rules, where the search for a rule that is not met told this number.
+pub(crate) fn judged(unmet: usize, head: Head, levels: &[u64], marks: &[u64]) -> Checked
+    ensures { λ r. ⌜ Judges unmet head (now (levels .entry)) (now (marks .entry)) (saidChecked r) ⌝ }
+{
+    if !has_room(levels, marks, head.items) {
+        return refused(Fault::NoRoom, 0);
+    }
+    let bad = first_bad(levels, head.items);
+    if bad < head.items {
+        return refused(Fault::BadLabel, bad);
+    }
+    if unmet < head.rules {
+        return Checked::Unmet(unmet);
+    }
+    Checked::Met
+}
+
+// The refusal for a fault at a place.
+pub(crate) fn refused(fault: Fault, place: usize) -> Checked
+    ensures { λ r. ⌜ r ≡ refusedAt fault place ⌝ }
+{
+    Checked::Refused(Refusal {
+        fault,
+        place: place as u64,
+    })
 }
 
 // Whether the labels meet a rule. An item past the end of the labels has the lowest class.
-pub fn met(rule: Rule, levels: &[u64], marks: &[u64]) -> bool
+pub(crate) fn met(rule: Rule, levels: &[u64], marks: &[u64]) -> bool
     ensures { λ r. ⌜ Tells (Met classes (meaningOf rule) (labelsIn (now (levels .entry)) (now (marks .entry)))) r ⌝ }
 {
     let first = labels::label_at(levels, marks, rule.left[0]);
@@ -43,34 +84,6 @@ pub fn met(rule: Rule, levels: &[u64], marks: &[u64]) -> bool
         return join.covers(rule.class);
     }
     join.covers(labels::label_at(levels, marks, rule.right))
-}
-
-// BadTable where the table is not accepted with m rules and n items; NoRoom where there are fewer than n labels; BadLabel with the first of
-// the n items whose level is over 15; else Unmet with the first of the m rules that the labels do not meet, or Met.
-pub fn check(rules: &[u64], m: usize, n: usize, levels: &[u64], marks: &[u64]) -> Checked
-    ensures { λ r. ⌜ CheckSays (TableAccepted (now (rules .entry)) m n) (ruleAt (now (rules .entry))) m n (now (levels .entry)) (now (marks .entry)) (said r) ⌝ }
-{
-    if !accepts::rules_ok(rules, m, n) {
-        return Checked::BadTable;
-    }
-    judged(first_unmet(rules, m, levels, marks), m, n, levels, marks)
-}
-
-// What is answered of m accepted rules and n items, where the search for a rule that is not met told this number.
-pub(crate) fn judged(unmet: usize, m: usize, n: usize, levels: &[u64], marks: &[u64]) -> Checked
-    ensures { λ r. ⌜ Judges unmet m n (now (levels .entry)) (now (marks .entry)) (said r) ⌝ }
-{
-    if !has_room(levels, marks, n) {
-        return Checked::NoRoom;
-    }
-    let bad = first_bad(levels, n);
-    if bad < n {
-        return Checked::BadLabel(bad);
-    }
-    if unmet < m {
-        return Checked::Unmet(unmet);
-    }
-    Checked::Met
 }
 
 // The first of the table's m rules that the labels do not meet, and m where they meet each.

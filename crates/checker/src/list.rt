@@ -4,14 +4,17 @@
 use super::Checked;
 use super::judged;
 use super::met;
-use rules::MOST_ITEMS;
-use rules::MOST_RULES;
+use super::refused;
+use refusals::Fault;
+use refusals::MOST_ITEMS;
+use refusals::MOST_RULES;
+use rules::Head;
 use rules::Rule;
 ghost use Rattle.laws.specs.Tells.{Tells};
-ghost use Rattle.checker.specs.Answer.{said};
+ghost use Rattle.checker.specs.Answer.{saidChecked};
 ghost use Rattle.checker.specs.Checking.{CheckSays};
 ghost use Rattle.checker.specs.List.{listAt, ListAccepted};
-ghost use Rattle.checker.specs.Walking.{Sizes, Count, Starts, Stands, SoughtOn, GoesOn, Concludes};
+ghost use Rattle.checker.specs.InnerWalking.{Sizes, Count, Starts, Stands, SoughtOn, GoesOn, Concludes};
 
 // What is known of the rules so far: whether they are accepted in this order, the kind of the last one, and the number of the first one that is
 // not met, or the most rules where each is met.
@@ -21,52 +24,46 @@ pub(crate) struct Seen {
     pub unmet: usize,
 }
 
-// As `check`, of m rules that are lent as records: BadTable also where the list is shorter than m.
-pub fn check_list(rules: &[Rule], m: usize, n: usize, levels: &[u64], marks: &[u64]) -> Checked
-    ensures { λ r. ⌜ CheckSays (ListAccepted (now (rules .entry)) m n) (listAt (now (rules .entry))) m n (now (levels .entry)) (now (marks .entry)) (said r) ⌝ }
+// As `check`, of rules that are lent as records: BadTable also where the list is shorter than the head says.
+pub fn check_list(rules: &[Rule], head: Head, levels: &[u64], marks: &[u64]) -> Checked
+    ensures { λ r. ⌜ CheckSays (ListAccepted head (now (rules .entry))) head (listAt (now (rules .entry))) (now (levels .entry)) (now (marks .entry)) (saidChecked r) ⌝ }
 {
     let len = rules.len();
-    let count = listed(len, m, n);
+    let count = listed(len, head);
     let mut seen = nothing();
     let mut i: usize = 0;
     while i < count {
-        seen = next(seen, rules[i], i, n, levels, marks);
+        seen = next(seen, rules[i], i, head, levels, marks);
         i += 1;
     }
-    answer(seen, len, m, n, levels, marks)
+    answer(seen, len, head, levels, marks)
 }
 
 // As `check_list`, of rules that are passed by value.
-pub fn check_array(
-    rules: [Rule; MOST_RULES],
-    m: usize,
-    n: usize,
-    levels: &[u64],
-    marks: &[u64],
-) -> Checked
-    ensures { λ r. ⌜ CheckSays (ListAccepted rules m n) (listAt rules) m n (now (levels .entry)) (now (marks .entry)) (said r) ⌝ }
+pub fn check_array(rules: [Rule; MOST_RULES], head: Head, levels: &[u64], marks: &[u64]) -> Checked
+    ensures { λ r. ⌜ CheckSays (ListAccepted head rules) head (listAt rules) (now (levels .entry)) (now (marks .entry)) (saidChecked r) ⌝ }
 {
-    check_list(&rules, m, n, levels, marks)
+    check_list(&rules, head, levels, marks)
 }
 
-// Whether a list of this length can hold m rules of a book of n items.
-fn sizes_ok(len: usize, m: usize, n: usize) -> bool
-    ensures { λ r. ⌜ Tells (Sizes len m n) r ⌝ }
+// Whether a list of this length can hold the rules of a book with this head, and the head is not too large.
+fn sizes_ok(len: usize, head: Head) -> bool
+    ensures { λ r. ⌜ Tells (Sizes len head) r ⌝ }
 {
-    if MOST_ITEMS < n {
+    if MOST_ITEMS < head.items {
         return false;
     }
-    if MOST_RULES < m {
+    if MOST_RULES < head.rules {
         return false;
     }
-    m <= len
+    head.rules <= len
 }
 
 // How many rules are looked at: none where the sizes are wrong.
-fn listed(len: usize, m: usize, n: usize) -> usize
-    ensures { λ c. ⌜ Count len m n c ⌝ }
+fn listed(len: usize, head: Head) -> usize
+    ensures { λ c. ⌜ Count len head c ⌝ }
 {
-    if sizes_ok(len, m, n) { m } else { 0 }
+    if sizes_ok(len, head) { head.rules } else { 0 }
 }
 
 // What is known before the first rule.
@@ -81,18 +78,18 @@ fn nothing() -> Seen
 }
 
 // What is known after rule i.
-fn next(seen: Seen, rule: Rule, i: usize, n: usize, levels: &[u64], marks: &[u64]) -> Seen
-    ensures { λ r. ⌜ GoesOn seen rule i n (now (levels .entry)) (now (marks .entry)) r ⌝ }
+fn next(seen: Seen, rule: Rule, i: usize, head: Head, levels: &[u64], marks: &[u64]) -> Seen
+    ensures { λ r. ⌜ GoesOn seen rule i head (now (levels .entry)) (now (marks .entry)) r ⌝ }
 {
     Seen {
-        good: stands(seen, rule, n),
+        good: stands(seen, rule, head.items as u64),
         kind: rule.kind,
         unmet: unmet_after(seen.unmet, rule, i, levels, marks),
     }
 }
 
-// Whether the rules so far are accepted and this one may come behind them.
-fn stands(seen: Seen, rule: Rule, n: usize) -> bool
+// Whether the rules so far are accepted and this one may come behind them, in a book of n items.
+fn stands(seen: Seen, rule: Rule, n: u64) -> bool
     ensures { λ r. ⌜ Tells (Stands seen rule n) r ⌝ }
 {
     if !seen.good {
@@ -101,7 +98,7 @@ fn stands(seen: Seen, rule: Rule, n: usize) -> bool
     if rule.kind < seen.kind {
         return false;
     }
-    accepts::rule_ok(rule, n as u64)
+    accepts::rule_ok(rule, n)
 }
 
 // The number of the first rule up to rule i that is not met, given that of the first before it.
@@ -118,14 +115,14 @@ fn unmet_after(unmet: usize, rule: Rule, i: usize, levels: &[u64], marks: &[u64]
 }
 
 // What is answered once the rules are looked at.
-fn answer(seen: Seen, len: usize, m: usize, n: usize, levels: &[u64], marks: &[u64]) -> Checked
-    ensures { λ r. ⌜ Concludes seen len m n (now (levels .entry)) (now (marks .entry)) (said r) ⌝ }
+fn answer(seen: Seen, len: usize, head: Head, levels: &[u64], marks: &[u64]) -> Checked
+    ensures { λ r. ⌜ Concludes seen len head (now (levels .entry)) (now (marks .entry)) (saidChecked r) ⌝ }
 {
-    if !sizes_ok(len, m, n) {
-        return Checked::BadTable;
+    if !sizes_ok(len, head) {
+        return refused(Fault::BadTable, 0);
     }
     if !seen.good {
-        return Checked::BadTable;
+        return refused(Fault::BadTable, 0);
     }
-    judged(seen.unmet, m, n, levels, marks)
+    judged(seen.unmet, head, levels, marks)
 }

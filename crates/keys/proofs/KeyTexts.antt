@@ -1,5 +1,5 @@
--- The keys there and back: a key's text reads back whatever follows it, and what is read is the key's text. They rest on comparing byte by
--- byte.
+-- The keys there and back: a key's text reads back whatever follows it, and what is read is the key's text; and the edges of the table of
+-- what may come next. They rest on comparing byte by byte.
 -- Assumes nothing.
 use mathlib.Core.Path.{_≡_, refl, sym, ap₂, subst}
 use mathlib.Core.Bool.{Bool, true, false, cond}
@@ -98,12 +98,15 @@ key-reads Key.Floor rest = refl
 key-reads Key.Follow rest = refl
 key-reads Key.End rest = refl
 
--- Outside the six rows and six columns no key may come.
-pub next-past-rows : (after key : ℕ) → 5 < after → false ≡ nextAllowed after key
+-- "six rows and six columns": outside them no key may come.
+abbrev pub keyCount : ℕ
+keyCount = 6
+
+pub next-past-rows : (after key : ℕ) → keyCount ≤ after → false ≡ nextAllowed after key
 unfolding nextAllowed
 next-past-rows after key h = rw (List·getD-eq-default nextRows [] {n = after} h)
 
-row-length : (after : ℕ) → length (getD nextRows after []) ≤ 6
+row-length : (after : ℕ) → length (getD nextRows after []) ≤ keyCount
 row-length zero = omega arith
 row-length (suc zero) = omega arith
 row-length (suc (suc zero)) = omega arith
@@ -112,6 +115,6 @@ row-length (suc (suc (suc (suc zero)))) = omega arith
 row-length (suc (suc (suc (suc (suc zero))))) = omega arith
 row-length (suc (suc (suc (suc (suc (suc after)))))) = omega arith
 
-pub next-past-columns : (after key : ℕ) → 5 < key → false ≡ nextAllowed after key
+pub next-past-columns : (after key : ℕ) → keyCount ≤ key → false ≡ nextAllowed after key
 unfolding nextAllowed
 next-past-columns after key h = sym (List·getD-eq-default (getD nextRows after []) false {n = key} (omega (arith, row-length after)))

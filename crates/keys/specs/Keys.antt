@@ -1,4 +1,4 @@
--- The six keys: their texts, the key at the front of a text, and which key may come next.
+-- The six keys: their texts, the key at the front of a text, and which key may come next; and the keys of lines that are only printed.
 -- Assumes nothing.
 use mathlib.Core.Bool.{Bool, true, false, cond, _&&_}
 use mathlib.Core.List.{List, [], _∷_}
@@ -16,6 +16,16 @@ keyText Key.Cap = 99 ∷ 97 ∷ 112 ∷ 61 ∷ []
 keyText Key.Floor = 102 ∷ 108 ∷ 111 ∷ 111 ∷ 114 ∷ 61 ∷ []
 keyText Key.Follow = 102 ∷ 111 ∷ 108 ∷ 108 ∷ 111 ∷ 119 ∷ 61 ∷ []
 keyText Key.End = 101 ∷ 110 ∷ 100 ∷ 61 ∷ []
+
+-- "one line label=NAME:CLASS", "refused= with the number, at= with the place": label= refused= at=
+abbrev pub labelKey : List ℕ
+labelKey = 108 ∷ 97 ∷ 98 ∷ 101 ∷ 108 ∷ 61 ∷ []
+
+abbrev pub refusedKey : List ℕ
+refusedKey = 114 ∷ 101 ∷ 102 ∷ 117 ∷ 115 ∷ 101 ∷ 100 ∷ 61 ∷ []
+
+abbrev pub atKey : List ℕ
+atKey = 97 ∷ 116 ∷ 61 ∷ []
 
 -- The text begins with these bytes.
 unfoldable pub startsWith : List ℕ → List ℕ → Bool

@@ -1,10 +1,33 @@
-// The six keys: which one stands at a place of a text, and which may come next.
+// The six keys: their texts, which one stands at a place of a text, and which may come next.
 //
 // Every function takes any place and any number. Past a text's end no key stands, and a number that is no row or no column of the table is
 // answered no.
 ghost use mathlib.Core.Path.{_≡_};
 ghost use lib.ListN.{drop};
 ghost use Rattle.keys.specs.Keys.{startsWith, foundOr, keyAt, keyNumber, nextAllowed};
+
+// The text of each key, with its `=`.
+pub const FORM_KEY: [u8; 5] = *b"form=";
+
+pub const ITEM_KEY: [u8; 5] = *b"item=";
+
+pub const CAP_KEY: [u8; 4] = *b"cap=";
+
+pub const FLOOR_KEY: [u8; 6] = *b"floor=";
+
+pub const FOLLOW_KEY: [u8; 7] = *b"follow=";
+
+pub const END_KEY: [u8; 4] = *b"end=";
+
+// The keys of lines that are only printed: a label, a refusal's number and its place.
+pub const LABEL_KEY: [u8; 6] = *b"label=";
+
+pub const REFUSED_KEY: [u8; 8] = *b"refused=";
+
+pub const AT_KEY: [u8; 3] = *b"at=";
+
+// How many keys there are, which is also the number of the rows of the table of what may come next.
+const KEYS: u64 = 6;
 
 // The keys, in their order.
 pub enum Key {
@@ -24,7 +47,7 @@ pub enum ReadKey {
 
 // Which key may come next, 1 for yes: six rows, one after the other, each named at its end, with a cell each for form, item, cap, floor,
 // follow and end.
-const NEXT: [u8; 36] = [
+const NEXT: [u8; (KEYS * KEYS) as usize] = [
     1,
     0,
     0,
@@ -63,16 +86,16 @@ const NEXT: [u8; 36] = [
     1, // after follow
 ];
 
-// The key at a place with its `=`.
+// The key at a place, with its `=`. Bad where none of the six stands there.
 pub fn read_key(s: &[u8], at: usize) -> ReadKey
     ensures { λ r. ⌜ r ≡ keyAt (drop at (now (s .entry))) ⌝ }
 {
-    let end = key_or(s, at, b"end=", Key::End, ReadKey::Bad);
-    let follow = key_or(s, at, b"follow=", Key::Follow, end);
-    let floor = key_or(s, at, b"floor=", Key::Floor, follow);
-    let cap = key_or(s, at, b"cap=", Key::Cap, floor);
-    let item = key_or(s, at, b"item=", Key::Item, cap);
-    key_or(s, at, b"form=", Key::Form, item)
+    let end = key_or(s, at, &END_KEY, Key::End, ReadKey::Bad);
+    let follow = key_or(s, at, &FOLLOW_KEY, Key::Follow, end);
+    let floor = key_or(s, at, &FLOOR_KEY, Key::Floor, follow);
+    let cap = key_or(s, at, &CAP_KEY, Key::Cap, floor);
+    let item = key_or(s, at, &ITEM_KEY, Key::Item, cap);
+    key_or(s, at, &FORM_KEY, Key::Form, item)
 }
 
 // A key's number, from 0 in the keys' order. One more than it is the number of the row for what may come after the key.
@@ -89,17 +112,17 @@ pub fn key_number(key: Key) -> u64
     }
 }
 
-// Whether a key may come next after the start, 0, or after the key with number `after` - 1. No to any number over 5.
+// Whether a key may come next after the start, 0, or after the key with number `after` - 1. No to any other number.
 pub fn may_follow(after: u64, key: u64) -> bool
     ensures { λ r. ⌜ r ≡ nextAllowed after key ⌝ }
 {
-    if 5 < after {
+    if KEYS <= after {
         return false;
     }
-    if 5 < key {
+    if KEYS <= key {
         return false;
     }
-    let cell = (after * 6 + key) as usize;
+    let cell = (after * KEYS + key) as usize;
     NEXT[cell] == 1
 }
 

@@ -12,17 +12,19 @@ use lib.ListN.{length, take, drop, length-drop}
 use lib.Seq.{length-take-le}
 use borrow.Author.Tests.{eq-eqb, ne-eqb, eqb-true}
 use Rattle.items.proofs.Names.{name-spelled}
+use Rattle.scans.specs.Ascii.{plus}
 use Rattle.scans.specs.Bytes.{byteAt, runLen}
 use Rattle.scans.proofs.Places.{byte-inside}
 use Rattle.tokens.specs.Tokens.{nameOfRun, nameAt}
 use Rattle.tokens.specs.declared.ReadName.{ReadName}
 use Rattle.tokens.proofs.Tokens.{name-is-name}
-use Rattle.lines.specs.Left.{before, afterName, leftFrom, leftAt}
+use Rattle.lines.specs.Left.{leftFound, namesBefore, afterName, leftFrom, leftAt}
+use Rattle.lines.specs.declared.left.LeftSide.{LeftSide}
 use Rattle.lines.specs.declared.left.ReadLeft.{ReadLeft}
 
-pub before-before : (c k d n : ℕ) (x : ReadLeft) → before c k (before d n x) ≡ before (c + d) (k + n) x
+pub before-before : (c k d n : ℕ) (x : ReadLeft) → namesBefore c k (namesBefore d n x) ≡ namesBefore (c + d) (k + n) x
 before-before c k d n ReadLeft.Bad = refl
-before-before c k d n (ReadLeft.Found e m) = rw (add-assoc c d e, add-assoc k n m)
+before-before c k d n (ReadLeft.Found x) = rw (add-assoc c d (x .names), add-assoc k n (x .len))
 
 name-nil : nameAt [] ≡ ReadName.Bad
 unfolding nameOfRun runLen
@@ -33,12 +35,12 @@ after-agree : (more other : ℕ → ReadLeft) (l : List ℕ) (x : ReadName) → 
     → afterName more l x ≡ afterName other l x
 unfolding afterName
 after-agree more other l ReadName.Bad f = refl
-after-agree more other l (ReadName.Found n) f = plus (eqb (byteAt (drop n l)) 43) refl
+after-agree more other l (ReadName.Found n) f = sign (eqb (byteAt (drop n l)) plus) refl
   where
-    plus : (b : Bool) → eqb (byteAt (drop n l)) 43 ≡ b
-        → cond b (before 1 (n + 1) (more (n + 1))) (ReadLeft.Found 1 n) ≡ cond b (before 1 (n + 1) (other (n + 1))) (ReadLeft.Found 1 n)
-    plus false e = refl
-    plus true e = ap (before 1 (n + 1)) (f n (byte-inside l n (omega (arith, eqb-true (byteAt (drop n l)) 43 e))))
+    sign : (b : Bool) → eqb (byteAt (drop n l)) plus ≡ b
+        → cond b (namesBefore 1 (n + 1) (more (n + 1))) (leftFound 1 n) ≡ cond b (namesBefore 1 (n + 1) (other (n + 1))) (leftFound 1 n)
+    sign false e = refl
+    sign true e = ap (namesBefore 1 (n + 1)) (f n (byte-inside l n (omega (arith, eqb-true (byteAt (drop n l)) plus e))))
 
 -- Any bound on the length gives the same left side.
 left-bound : (f g : ℕ) (l : List ℕ) → length l ≤ f → length l ≤ g → leftFrom f l ≡ leftFrom g l
@@ -65,25 +67,25 @@ unfolding afterName
 left-bad l e = left-step l ∙ rw e
 
 module _ (l : List ℕ) (n : ℕ) (e : nameAt l ≡ ReadName.Found n) where
-  pub left-last : (byteAt (drop n l) ≡ 43 → ⊥) → leftAt l ≡ ReadLeft.Found 1 n
+  pub left-last : (byteAt (drop n l) ≡ plus → ⊥) → leftAt l ≡ leftFound 1 n
   unfolding afterName
-  left-last f = left-step l ∙ rw (e, ne-eqb (byteAt (drop n l)) 43 f)
+  left-last f = left-step l ∙ rw (e, ne-eqb (byteAt (drop n l)) plus f)
 
-  pub left-more : byteAt (drop n l) ≡ 43 → leftAt l ≡ before 1 (n + 1) (leftAt (drop (n + 1) l))
+  pub left-more : byteAt (drop n l) ≡ plus → leftAt l ≡ namesBefore 1 (n + 1) (leftAt (drop (n + 1) l))
   unfolding afterName
-  left-more f = left-step l ∙ rw (e, eq-eqb (byteAt (drop n l)) 43 f)
+  left-more f = left-step l ∙ rw (e, eq-eqb (byteAt (drop n l)) plus f)
 
 -- What holds of one name, and of a name with a plus sign behind it and a left side of which it holds, holds of every left side that is read.
 module _ (P : List ℕ → ℕ → ℕ → Type 0) (one : (l : List ℕ) (n : ℕ) → nameAt l ≡ ReadName.Found n → P l 1 n)
-    (more : (l : List ℕ) (n c k : ℕ) → nameAt l ≡ ReadName.Found n → byteAt (drop n l) ≡ 43 → P (drop (n + 1) l) c k → P l (1 + c) (n + 1 + k)) where
+    (more : (l : List ℕ) (n c k : ℕ) → nameAt l ≡ ReadName.Found n → byteAt (drop n l) ≡ plus → P (drop (n + 1) l) c k → P l (1 + c) (n + 1 + k)) where
   abbrev LeftSays : List ℕ → ReadLeft → Type 0
   LeftSays l ReadLeft.Bad = Unit
-  LeftSays l (ReadLeft.Found c n) = P l c n
+  LeftSays l (ReadLeft.Found x) = P l (x .names) (x .len)
 
-  more-says : (l : List ℕ) (n : ℕ) (x : ReadLeft) → nameAt l ≡ ReadName.Found n → byteAt (drop n l) ≡ 43 → LeftSays (drop (n + 1) l) x
-      → LeftSays l (before 1 (n + 1) x)
+  more-says : (l : List ℕ) (n : ℕ) (x : ReadLeft) → nameAt l ≡ ReadName.Found n → byteAt (drop n l) ≡ plus → LeftSays (drop (n + 1) l) x
+      → LeftSays l (namesBefore 1 (n + 1) x)
   more-says l n ReadLeft.Bad e f g = tt
-  more-says l n (ReadLeft.Found c k) e f g = more l n c k e f g
+  more-says l n (ReadLeft.Found x) e f g = more l n (x .names) (x .len) e f g
 
   from-says : (f : ℕ) (l : List ℕ) → LeftSays l (leftFrom f l)
   unfolding leftFrom afterName
@@ -93,27 +95,42 @@ module _ (P : List ℕ → ℕ → ℕ → Type 0) (one : (l : List ℕ) (n : �
       after : (x : ReadName) → nameAt l ≡ x → ((n : ℕ) → LeftSays (drop (n + 1) l) (leftFrom f (drop (n + 1) l)))
           → LeftSays l (afterName (λ k. leftFrom f (drop k l)) l x)
       after ReadName.Bad e g = tt
-      after (ReadName.Found n) e g = plus (eqb (byteAt (drop n l)) 43) refl
+      after (ReadName.Found n) e g = sign (eqb (byteAt (drop n l)) plus) refl
         where
-          plus : (b : Bool) → eqb (byteAt (drop n l)) 43 ≡ b
-              → LeftSays l (cond b (before 1 (n + 1) (leftFrom f (drop (n + 1) l))) (ReadLeft.Found 1 n))
-          plus true d = more-says l n (leftFrom f (drop (n + 1) l)) e (eqb-true (byteAt (drop n l)) 43 d) (g n)
-          plus false d = one l n e
+          sign : (b : Bool) → eqb (byteAt (drop n l)) plus ≡ b
+              → LeftSays l (cond b (namesBefore 1 (n + 1) (leftFrom f (drop (n + 1) l))) (leftFound 1 n))
+          sign true d = more-says l n (leftFrom f (drop (n + 1) l)) e (eqb-true (byteAt (drop n l)) plus d) (g n)
+          sign false d = one l n e
 
-  pub left-by : (l : List ℕ) (c n : ℕ) → leftAt l ≡ ReadLeft.Found c n → P l c n
-  left-by l c n e = subst (LeftSays l) e (from-says (length l) l)
+  pub left-by : (l : List ℕ) (x : LeftSide) → leftAt l ≡ ReadLeft.Found x → P l (x .names) (x .len)
+  left-by l x e = subst (LeftSays l) e (from-says (length l) l)
 
 pub name-some : (l : List ℕ) (n : ℕ) → nameAt l ≡ ReadName.Found n → 1 ≤ n
 name-some l n e =
     let here = name-is-name l n e in
     omega (arith, name-spelled (take n l) (here .name) .least, length-take-le n l (here .within))
 
--- What a left side of n bytes says: it has a byte, and stands within the text.
-pub record LeftHere (l : List ℕ) (n : ℕ) : Type 0 where
+-- What has n bytes at a place has at least one, and stands within the text.
+pub record Stands (s : List ℕ) (at n : ℕ) : Type 0 where
   pub some : 1 ≤ n
-  pub within : n ≤ length l
+  pub within : at + n ≤ length s
 
-pub left-here : (l : List ℕ) (c n : ℕ) → leftAt l ≡ ReadLeft.Found c n → LeftHere l n
+pub name-stands : (s : List ℕ) (at n : ℕ) → nameAt (drop at s) ≡ ReadName.Found n → Stands s at n
+name-stands s at n e =
+    let some = name-some (drop at s) n e in
+    record { some = some; within = omega (arith, name-is-name (drop at s) n e .within, length-drop at s) }
+
+-- The same at the front of what is left of a text.
+record LeftHere (l : List ℕ) (n : ℕ) : Type 0 where
+  some : 1 ≤ n
+  within : n ≤ length l
+
+left-here : (l : List ℕ) (x : LeftSide) → leftAt l ≡ ReadLeft.Found x → LeftHere l (x .len)
 left-here =
     left-by (λ l c n. LeftHere l n) (λ l n e. record { some = name-some l n e; within = name-is-name l n e .within })
     (λ l n c k e f g. record { some = omega arith; within = omega (arith, g .within, length-drop (n + 1) l, byte-inside l n (omega arith)) })
+
+pub left-stands : (s : List ℕ) (at : ℕ) (x : LeftSide) → leftAt (drop at s) ≡ ReadLeft.Found x → Stands s at (x .len)
+left-stands s at x e =
+    let here = left-here (drop at s) x e in
+    record { some = here .some; within = omega (arith, here .some, here .within, length-drop at s) }

@@ -1,11 +1,11 @@
--- What reading a left side, a value and a line answers, one law for each answer that the code can give. They rest on the laws of the tokens, of
--- places and of the left side.
+-- What reading a value and a line answers, one law for each answer that the code can give. They rest on the laws of the tokens, of places and of
+-- the left side.
 -- Assumes nothing.
 use mathlib.Core.Path.{_≡_, refl, sym, ap, _∙_, subst}
 use mathlib.Core.Bool.{Bool, true, false, cond}
 use mathlib.Core.List.{List}
-use Prim.Native.Nat.{ℕ, _+_, _-_, _^_, _≤_, _<_}
-use native.Mathlib.Nat.{add-assoc, le-refl, zero-add}
+use Prim.Native.Nat.{ℕ, _+_, _^_, _≤_, _<_}
+use native.Mathlib.Nat.{add-assoc, le-refl}
 use native.Mathlib.Omega.{arith}
 use lib.Dec.{eqb}
 use lib.ListN.{length, take, drop, length-drop}
@@ -17,6 +17,7 @@ use Rattle.classes.specs.Class.{lowest}
 use Rattle.classes.specs.declared.Class.{Class}
 use Rattle.items.specs.Names.{nameRoom}
 use Rattle.items.proofs.Names.{name-spelled}
+use Rattle.scans.specs.Ascii.{lf, digit1, colon}
 use Rattle.scans.specs.Bytes.{byteAt}
 use Rattle.scans.proofs.Places.{byte-inside}
 use Rattle.keys.specs.Keys.{keyAt}
@@ -24,114 +25,32 @@ use Rattle.keys.specs.declared.Key.{Key}
 use Rattle.keys.specs.declared.ReadKey.{ReadKey}
 use Rattle.keys.proofs.KeyTexts.{key-some, key-is-text}
 use Rattle.tokens.specs.Tokens.{nameAt, countAt, classAt}
+use Rattle.tokens.specs.declared.Number.{Number}
+use Rattle.tokens.specs.declared.ClassToken.{ClassToken}
 use Rattle.tokens.specs.declared.ReadName.{ReadName}
 use Rattle.tokens.specs.declared.ReadCount.{ReadCount}
 use Rattle.tokens.specs.declared.ReadClass.{ReadClass}
 use Rattle.tokens.proofs.Tokens.{name-is-name, class-is-text, count-is-text}
+use Rattle.lines.specs.declared.left.LeftSide.{LeftSide}
 use Rattle.lines.specs.declared.left.ReadLeft.{ReadLeft}
 use Rattle.lines.specs.declared.value.Value.{Value}
 use Rattle.lines.specs.declared.value.ReadValue.{ReadValue}
 use Rattle.lines.specs.declared.ReadLine.{ReadLine}
 use Rattle.lines.specs.declared.Line.{Line}
-use Rattle.lines.specs.Left.{before, leftAt}
+use Rattle.lines.specs.Left.{leftAt}
 use Rattle.lines.specs.Values.{unnamed, named, formAt, itemOf, itemAt, capOf, capAt, floorOf, floorAt, followOf, followAt, endOf, endAt, valueAt, classBehind, withClass, rightBehind, withRight}
 use Rattle.lines.specs.Lines.{ended, lineOf, lineAt, lineLen}
-use Rattle.lines.proofs.Sides.{before-before, name-some, left-here, left-bad, left-last, left-more}
-
--- What has n bytes at a place has at least one, and stands within the text.
-pub record Stands (s : List ℕ) (at n : ℕ) : Type 0 where
-  pub some : 1 ≤ n
-  pub within : at + n ≤ length s
-
-pub name-stands : (s : List ℕ) (at n : ℕ) → nameAt (drop at s) ≡ ReadName.Found n → Stands s at n
-name-stands s at n e =
-    let some = name-some (drop at s) n e in
-    record { some = some; within = omega (arith, name-is-name (drop at s) n e .within, length-drop at s) }
-
-pub left-stands : (s : List ℕ) (at c n : ℕ) → leftAt (drop at s) ≡ ReadLeft.Found c n → Stands s at n
-left-stands s at c n e =
-    let here = left-here (drop at s) c n e in
-    record { some = here .some; within = omega (arith, here .some, here .within, length-drop at s) }
-
--- The left side: names have been read from `at` to `place`.
-pub record Passed (s : List ℕ) (at names place : ℕ) : Type 0 where
-  pub past : at ≤ place
-  pub few : names ≤ place - at
-  pub within : at < place → place ≤ length s
-  pub rest : leftAt (drop at s) ≡ before names (place - at) (leftAt (drop place s))
-
-before-none : (x : ReadLeft) → x ≡ before 0 0 x
-before-none ReadLeft.Bad = refl
-before-none (ReadLeft.Found c k) = rw (zero-add c, zero-add k)
-
-pub passed-none : {s : List ℕ} {at : ℕ} → Passed s at 0 at
-passed-none {s} {at} = record {
-  past = le-refl at;
-  few = omega arith;
-  within = λ h. absurd (omega arith);
-  rest = rw (none) (before-none (leftAt (drop at s)));
-}
-  where
-    none : at - at ≡ 0
-    none = omega arith
-
-module _ {s : List ℕ} {at names place : ℕ} (p : Passed s at names place) where
-  pub passed-bad : {x : ReadName} → x ≡ nameAt (drop place s) → x ≡ ReadName.Bad → ReadLeft.Bad ≡ leftAt (drop at s)
-  passed-bad e f = sym (p .rest ∙ rw (left-bad (drop place s) (sym e ∙ f)))
-
-  module _ {n : ℕ} {x : ReadName} (e : x ≡ nameAt (drop place s)) (f : x ≡ ReadName.Found n) where
-    here : Stands s place n
-    here = name-stands s place n (sym e ∙ f)
-
-    pub passed-fits : length s < 2 ^ 64 → Fits w64 (place + n)
-    passed-fits h = record { fits = omega (arith, here .within) }
-
-    pub passed-count : length s < 2 ^ 64 → Fits w64 (names + 1)
-    passed-count h = record { fits = omega (arith, here .within, here .some, p .few, p .past) }
-
-    pub passed-order : at ≤ place + n
-    passed-order = omega (arith, p .past)
-
-    byte : byteAt (drop n (drop place s)) ≡ byteAt (drop (place + n) s)
-    byte = ap byteAt (drop-drop n place s)
-
-    module _ {b : ℕ} (g : b ≡ byteAt (drop (place + n) s)) where
-      pub passed-last : (b ≡ 43 → ⊥) → ReadLeft.Found (names + 1) (place + n - at) ≡ leftAt (drop at s)
-      passed-last h =
-          sym (p .rest ∙ rw (left-last (drop place s) n (sym e ∙ f) (λ z. h (g ∙ sym byte ∙ z))) (ap (ReadLeft.Found (names + 1)) far))
-        where
-          far : place - at + n ≡ place + n - at
-          far = omega (arith, p .past)
-
-      pub passed-next : b ≡ 43 → length s < 2 ^ 64 → Fits w64 (place + n + 1)
-      passed-next h i = record { fits = omega (arith, byte-inside s (place + n) (omega arith)) }
-
-      pub passed-less : b ≡ 43 → length s - (place + n + 1) < length s - place
-      passed-less h = omega (arith, byte-inside s (place + n) (omega arith))
-
-      pub passed-more : b ≡ 43 → Passed s at (names + 1) (place + n + 1)
-      passed-more h = record {
-        past = omega (arith, p .past);
-        few = omega (arith, p .few, p .past, here .some);
-        within = λ z. omega (arith, byte-inside s (place + n) (omega arith));
-        rest =
-            p .rest
-            ∙ rw (left-more (drop place s) n (sym e ∙ f) (byte ∙ sym g ∙ h), before-before, drop-drop (n + 1) place s, ← add-assoc place n 1)
-            (ap (λ (k : ℕ). before (names + 1) k (leftAt (drop (place + n + 1) s))) far);
-      }
-        where
-          far : place - at + (n + 1) ≡ place + n + 1 - at
-          far = omega (arith, p .past)
+use Rattle.lines.proofs.Sides.{Stands, name-stands, left-stands}
 
 -- The values of form and end, of an item, and what is behind the names of a rule.
 module _ (l : List ℕ) {b : ℕ} (e : b ≡ byteAt l) where
-  pub form-bad : (b ≡ 49 → ⊥) → ReadValue.Bad ≡ formAt l
+  pub form-bad : (b ≡ digit1 → ⊥) → ReadValue.Bad ≡ formAt l
   unfolding formAt
-  form-bad f = rw (← e, ne-eqb b 49 f)
+  form-bad f = rw (← e, ne-eqb b digit1 f)
 
-  pub form-found : b ≡ 49 → {r : ReadValue} → r ≡ unnamed 0 1 → r ≡ formAt l
+  pub form-found : b ≡ digit1 → {r : ReadValue} → r ≡ unnamed 0 1 → r ≡ formAt l
   unfolding formAt
-  form-found f g = rw (← e, eq-eqb b 49 f) g
+  form-found f g = rw (← e, eq-eqb b digit1 f) g
 
 module _ (s : List ℕ) (at : ℕ) {x : ReadName} (e : x ≡ nameAt (drop at s)) where
   pub item-bad : x ≡ ReadName.Bad → ReadValue.Bad ≡ itemAt (drop at s)
@@ -157,21 +76,21 @@ module _ (s : List ℕ) (at : ℕ) {x : ReadLeft} (e : x ≡ leftAt (drop at s))
   pub follow-bad : x ≡ ReadLeft.Bad → ReadValue.Bad ≡ followAt (drop at s)
   follow-bad f = rw (← e, f)
 
-  module _ {names n : ℕ} (f : x ≡ ReadLeft.Found names n) where
-    pub left-room : at + n ≤ length s
-    left-room = left-stands s at names n (sym e ∙ f) .within
+  module _ {left : LeftSide} (f : x ≡ ReadLeft.Found left) where
+    pub left-room : at + left .len ≤ length s
+    left-room = left-stands s at left (sym e ∙ f) .within
 
-    pub floor-found : {r : ReadValue} → r ≡ withClass names n (drop at s) → r ≡ floorAt (drop at s)
+    pub floor-found : {r : ReadValue} → r ≡ withClass (left .names) (left .len) (drop at s) → r ≡ floorAt (drop at s)
     floor-found g = g ∙ rw (← e, f)
 
-    pub follow-found : {r : ReadValue} → r ≡ withRight names n (drop at s) → r ≡ followAt (drop at s)
+    pub follow-found : {r : ReadValue} → r ≡ withRight (left .names) (left .len) (drop at s) → r ≡ followAt (drop at s)
     follow-found g = g ∙ rw (← e, f)
 
 module _ (l : List ℕ) {x : ReadCount} (e : x ≡ countAt l) where
   pub end-bad : x ≡ ReadCount.Bad → ReadValue.Bad ≡ endAt l
   end-bad f = rw (← e, f)
 
-  pub end-found : {v n : ℕ} → x ≡ ReadCount.Found v n → {r : ReadValue} → r ≡ unnamed v n → r ≡ endAt l
+  pub end-found : {y : Number} → x ≡ ReadCount.Found y → {r : ReadValue} → r ≡ unnamed (y .value) (y .len) → r ≡ endAt l
   end-found f g = g ∙ rw (← e, f)
 
 -- What stands behind n bytes: b is the byte there.
@@ -182,36 +101,36 @@ module _ (s : List ℕ) (at names n : ℕ) {b : ℕ} (e : b ≡ byteAt (drop (at
   behind : drop (n + 1) (drop at s) ≡ drop (at + n + 1) s
   behind = drop-drop (n + 1) at s ∙ rw add-assoc
 
-  pub class-no-colon : (b ≡ 58 → ⊥) → ReadValue.Bad ≡ withClass names n (drop at s)
+  pub class-no-colon : (b ≡ colon → ⊥) → ReadValue.Bad ≡ withClass names n (drop at s)
   unfolding withClass
-  class-no-colon f = rw (sign, ne-eqb b 58 f)
+  class-no-colon f = rw (sign, ne-eqb b colon f)
 
-  pub right-no-colon : (b ≡ 58 → ⊥) → ReadValue.Bad ≡ withRight names n (drop at s)
+  pub right-no-colon : (b ≡ colon → ⊥) → ReadValue.Bad ≡ withRight names n (drop at s)
   unfolding withRight
-  right-no-colon f = rw (sign, ne-eqb b 58 f)
+  right-no-colon f = rw (sign, ne-eqb b colon f)
 
-  module _ (f : b ≡ 58) where
+  module _ (f : b ≡ colon) where
     pub colon-next : length s < 2 ^ 64 → Fits w64 (at + n + 1)
     colon-next h = record { fits = omega (arith, byte-inside s (at + n) (omega arith)) }
 
     module _ {x : ReadClass} (g : x ≡ classAt (drop (at + n + 1) s)) where
       pub class-bad : x ≡ ReadClass.Bad → ReadValue.Bad ≡ withClass names n (drop at s)
       unfolding withClass
-      class-bad h = rw (sign, eq-eqb b 58 f, behind, ← g, h)
+      class-bad h = rw (sign, eq-eqb b colon f, behind, ← g, h)
 
-      module _ {c : Class} {k : ℕ} (h : x ≡ ReadClass.Found c k) where
-        pub class-len : length s < 2 ^ 64 → Fits w64 (n + 1 + k)
+      module _ {y : ClassToken} (h : x ≡ ReadClass.Found y) where
+        pub class-len : length s < 2 ^ 64 → Fits w64 (n + 1 + y .len)
         class-len i =
-            record { fits = omega (arith, byte-inside s (at + n) (omega arith), class-is-text _ c k (sym g ∙ h) .within, length-drop (at + n + 1) s) }
+            record { fits = omega (arith, byte-inside s (at + n) (omega arith), class-is-text _ y (sym g ∙ h) .within, length-drop (at + n + 1) s) }
 
-        pub class-behind : named names n 0 c (n + 1 + k) ≡ withClass names n (drop at s)
+        pub class-behind : named names n 0 (y .class) (n + 1 + y .len) ≡ withClass names n (drop at s)
         unfolding withClass
-        class-behind = rw (sign, eq-eqb b 58 f, behind, ← g, h)
+        class-behind = rw (sign, eq-eqb b colon f, behind, ← g, h)
 
     module _ {x : ReadName} (g : x ≡ nameAt (drop (at + n + 1) s)) where
       pub right-bad : x ≡ ReadName.Bad → ReadValue.Bad ≡ withRight names n (drop at s)
       unfolding withRight
-      right-bad h = rw (sign, eq-eqb b 58 f, behind, ← g, h)
+      right-bad h = rw (sign, eq-eqb b colon f, behind, ← g, h)
 
       module _ {k : ℕ} (h : x ≡ ReadName.Found k) where
         pub right-len : length s < 2 ^ 64 → Fits w64 (n + 1 + k)
@@ -219,7 +138,7 @@ module _ (s : List ℕ) (at names n : ℕ) {b : ℕ} (e : b ≡ byteAt (drop (at
 
         pub right-behind : {c : Class} → c ≡ lowest → named names n k c (n + 1 + k) ≡ withRight names n (drop at s)
         unfolding withRight
-        right-behind i = rw (sign, eq-eqb b 58 f, behind, ← g, h, i)
+        right-behind i = rw (sign, eq-eqb b colon f, behind, ← g, h, i)
 
 -- A value that is read stands within the text, and its left side within it.
 pub record ValueHere (l : List ℕ) (v : Value) : Type 0 where
@@ -232,10 +151,10 @@ ValueSays l (ReadValue.Found v) = ValueHere l v
 
 form-says : (l : List ℕ) → ValueSays l (formAt l)
 unfolding formAt
-form-says l = says (eqb (byteAt l) 49) refl
+form-says l = says (eqb (byteAt l) digit1) refl
   where
-    says : (b : Bool) → eqb (byteAt l) 49 ≡ b → ValueSays l (cond b (unnamed 0 1) ReadValue.Bad)
-    says true e = record { within = byte-inside l 0 (omega (arith, eqb-true (byteAt l) 49 e)); left = omega arith }
+    says : (b : Bool) → eqb (byteAt l) digit1 ≡ b → ValueSays l (cond b (unnamed 0 1) ReadValue.Bad)
+    says true e = record { within = byte-inside l 0 (omega (arith, eqb-true (byteAt l) digit1 e)); left = omega arith }
     says false e = tt
 
 item-says : (l : List ℕ) (x : ReadName) → nameAt l ≡ x → ValueSays l (itemOf x)
@@ -244,14 +163,14 @@ item-says l (ReadName.Found n) e = record { within = name-is-name l n e .within;
 
 end-says : (l : List ℕ) (x : ReadCount) → countAt l ≡ x → ValueSays l (endOf x)
 end-says l ReadCount.Bad e = tt
-end-says l (ReadCount.Found v n) e = record { within = count-is-text l v n e .within; left = omega arith }
+end-says l (ReadCount.Found x) e = record { within = count-is-text l x e .within; left = omega arith }
 
 behind-says : (l : List ℕ) (n : ℕ) (x : ReadValue) → (n < length l → ValueSays l x)
-    → ValueSays l (cond (eqb (byteAt (drop n l)) 58) x ReadValue.Bad)
-behind-says l n x f = says (eqb (byteAt (drop n l)) 58) refl
+    → ValueSays l (cond (eqb (byteAt (drop n l)) colon) x ReadValue.Bad)
+behind-says l n x f = says (eqb (byteAt (drop n l)) colon) refl
   where
-    says : (b : Bool) → eqb (byteAt (drop n l)) 58 ≡ b → ValueSays l (cond b x ReadValue.Bad)
-    says true e = f (byte-inside l n (omega (arith, eqb-true (byteAt (drop n l)) 58 e)))
+    says : (b : Bool) → eqb (byteAt (drop n l)) colon ≡ b → ValueSays l (cond b x ReadValue.Bad)
+    says true e = f (byte-inside l n (omega (arith, eqb-true (byteAt (drop n l)) colon e)))
     says false e = tt
 
 class-says : (names n : ℕ) (l : List ℕ) → ValueSays l (withClass names n l)
@@ -260,7 +179,7 @@ class-says names n l = behind-says l n (classBehind names n (classAt (drop (n + 
   where
     says : n < length l → (x : ReadClass) → classAt (drop (n + 1) l) ≡ x → ValueSays l (classBehind names n x)
     says h ReadClass.Bad e = tt
-    says h (ReadClass.Found c k) e = record { within = omega (arith, class-is-text (drop (n + 1) l) c k e .within, length-drop (n + 1) l); left = omega arith }
+    says h (ReadClass.Found x) e = record { within = omega (arith, class-is-text (drop (n + 1) l) x e .within, length-drop (n + 1) l); left = omega arith }
 
 right-says : (names n : ℕ) (l : List ℕ) → ValueSays l (withRight names n l)
 unfolding withRight
@@ -276,11 +195,11 @@ cap-says l (ReadName.Found n) = class-says 1 n l
 
 floor-says : (l : List ℕ) (x : ReadLeft) → ValueSays l (floorOf l x)
 floor-says l ReadLeft.Bad = tt
-floor-says l (ReadLeft.Found c n) = class-says c n l
+floor-says l (ReadLeft.Found x) = class-says (x .names) (x .len) l
 
 follow-says : (l : List ℕ) (x : ReadLeft) → ValueSays l (followOf l x)
 follow-says l ReadLeft.Bad = tt
-follow-says l (ReadLeft.Found c n) = right-says c n l
+follow-says l (ReadLeft.Found x) = right-says (x .names) (x .len) l
 
 value-says : (k : Key) (l : List ℕ) → ValueSays l (valueAt k l)
 value-says Key.Form l = form-says l
@@ -347,11 +266,11 @@ module _ (s : List ℕ) (at : ℕ) {k : Key} {n : ℕ} {x : ReadKey} (e : x ≡ 
         last : byteAt (drop (n + v .len) (drop at s)) ≡ b
         last = ap byteAt (drop-drop (n + v .len) at s) ∙ rw (← add-assoc at n (v .len)) (sym i)
 
-        pub line-no-end : (b ≡ 10 → ⊥) → ReadLine.Bad ≡ lineAt (drop at s)
-        line-no-end j = rw (← e, f, value, h, last, ne-eqb b 10 j)
+        pub line-no-end : (b ≡ lf → ⊥) → ReadLine.Bad ≡ lineAt (drop at s)
+        line-no-end j = rw (← e, f, value, h, last, ne-eqb b lf j)
 
-        pub line-found : b ≡ 10 → ReadLine.Found (record { key = k; from = n; value = v }) ≡ lineAt (drop at s)
-        line-found j = rw (← e, f, value, h, last, eq-eqb b 10 j)
+        pub line-found : b ≡ lf → ReadLine.Found (record { key = k; from = n; value = v }) ≡ lineAt (drop at s)
+        line-found j = rw (← e, f, value, h, last, eq-eqb b lf j)
 
 -- What a line that is read says: it has a byte and stands within the text, and its left side within it.
 pub record LineHere (l : List ℕ) (x : Line) : Type 0 where
@@ -366,14 +285,14 @@ LineSays l (ReadLine.Found x) = LineHere l x
 
 ended-says : (l : List ℕ) (k : Key) (n : ℕ) (y : ReadValue) → valueAt k (drop n l) ≡ y → LineSays l (ended l k n y)
 ended-says l k n ReadValue.Bad e = tt
-ended-says l k n (ReadValue.Found v) e = says (eqb (byteAt (drop (n + v .len) l)) 10) refl
+ended-says l k n (ReadValue.Found v) e = says (eqb (byteAt (drop (n + v .len) l)) lf) refl
   where
-    says : (b : Bool) → eqb (byteAt (drop (n + v .len) l)) 10 ≡ b
+    says : (b : Bool) → eqb (byteAt (drop (n + v .len) l)) lf ≡ b
         → LineSays l (cond b (ReadLine.Found (record { key = k; from = n; value = v })) ReadLine.Bad)
     says false f = tt
     says true f = record {
       some = omega arith;
-      within = omega (arith, byte-inside l (n + v .len) (omega (arith, eqb-true (byteAt (drop (n + v .len) l)) 10 f)));
+      within = omega (arith, byte-inside l (n + v .len) (omega (arith, eqb-true (byteAt (drop (n + v .len) l)) lf f)));
       left = omega (arith, value-here k (drop n l) v e .left);
       name = value-few k (drop n l) v e;
     }

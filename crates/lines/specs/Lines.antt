@@ -5,6 +5,7 @@ use mathlib.Core.List.{List}
 use Prim.Native.Nat.{ℕ, _+_}
 use lib.Dec.{eqb}
 use lib.ListN.{drop}
+use Rattle.scans.specs.Ascii.{lf}
 use Rattle.scans.specs.Bytes.{byteAt}
 use Rattle.keys.specs.Keys.{keyAt}
 use Rattle.keys.specs.declared.Key.{Key}
@@ -14,11 +15,11 @@ use Rattle.lines.specs.declared.Line.{Line}
 use Rattle.lines.specs.declared.ReadLine.{ReadLine}
 use Rattle.lines.specs.Values.{valueAt}
 
--- A key of n bytes and a value are a line where LF, 10, follows the value.
+-- A key of n bytes and a value are a line where LF follows the value.
 abbrev pub ended : List ℕ → Key → ℕ → ReadValue → ReadLine
 ended l k n ReadValue.Bad = ReadLine.Bad
 ended l k n (ReadValue.Found v) =
-    cond (eqb (byteAt (drop (n + v .len) l)) 10) (ReadLine.Found (record { key = k; from = n; value = v })) ReadLine.Bad
+    cond (eqb (byteAt (drop (n + v .len) l)) lf) (ReadLine.Found (record { key = k; from = n; value = v })) ReadLine.Bad
 
 abbrev pub lineOf : List ℕ → ReadKey → ReadLine
 lineOf l ReadKey.Bad = ReadLine.Bad

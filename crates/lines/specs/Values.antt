@@ -7,6 +7,7 @@ use lib.Dec.{eqb}
 use lib.ListN.{drop}
 use Rattle.classes.specs.Class.{lowest}
 use Rattle.classes.specs.declared.Class.{Class}
+use Rattle.scans.specs.Ascii.{digit1, colon}
 use Rattle.scans.specs.Bytes.{byteAt}
 use Rattle.keys.specs.declared.Key.{Key}
 use Rattle.tokens.specs.Tokens.{nameAt, countAt, classAt}
@@ -24,9 +25,9 @@ unnamed count n = ReadValue.Found (record { names = 0; left = 0; right = 0; clas
 abbrev pub named : ℕ → ℕ → ℕ → Class → ℕ → ReadValue
 named names n right c len = ReadValue.Found (record { names = names; left = n; right = right; class = c; count = 0; len = len })
 
--- "form | 1": the byte 49.
+-- "form | 1"
 unfoldable pub formAt : List ℕ → ReadValue
-formAt l = cond (eqb (byteAt l) 49) (unnamed 0 1) ReadValue.Bad
+formAt l = cond (eqb (byteAt l) digit1) (unnamed 0 1) ReadValue.Bad
 
 -- "item | NAME"
 abbrev pub itemOf : ReadName → ReadValue
@@ -36,13 +37,13 @@ itemOf (ReadName.Found n) = named 1 n 0 lowest n
 abbrev pub itemAt : List ℕ → ReadValue
 itemAt l = itemOf (nameAt l)
 
--- ":CLASS" behind names of n bytes; the colon is 58.
+-- ":CLASS" behind names of n bytes.
 abbrev pub classBehind : ℕ → ℕ → ReadClass → ReadValue
 classBehind names n ReadClass.Bad = ReadValue.Bad
-classBehind names n (ReadClass.Found c k) = named names n 0 c (n + 1 + k)
+classBehind names n (ReadClass.Found x) = named names n 0 (x .class) (n + 1 + x .len)
 
 unfoldable pub withClass : ℕ → ℕ → List ℕ → ReadValue
-withClass names n l = cond (eqb (byteAt (drop n l)) 58) (classBehind names n (classAt (drop (n + 1) l))) ReadValue.Bad
+withClass names n l = cond (eqb (byteAt (drop n l)) colon) (classBehind names n (classAt (drop (n + 1) l))) ReadValue.Bad
 
 -- ":NAME" behind names of n bytes.
 abbrev pub rightBehind : ℕ → ℕ → ReadName → ReadValue
@@ -50,7 +51,7 @@ rightBehind names n ReadName.Bad = ReadValue.Bad
 rightBehind names n (ReadName.Found k) = named names n k lowest (n + 1 + k)
 
 unfoldable pub withRight : ℕ → ℕ → List ℕ → ReadValue
-withRight names n l = cond (eqb (byteAt (drop n l)) 58) (rightBehind names n (nameAt (drop (n + 1) l))) ReadValue.Bad
+withRight names n l = cond (eqb (byteAt (drop n l)) colon) (rightBehind names n (nameAt (drop (n + 1) l))) ReadValue.Bad
 
 -- "cap | NAME:CLASS"
 abbrev pub capOf : List ℕ → ReadName → ReadValue
@@ -63,7 +64,7 @@ capAt l = capOf l (nameAt l)
 -- "floor | NAME+..+NAME:CLASS"
 abbrev pub floorOf : List ℕ → ReadLeft → ReadValue
 floorOf l ReadLeft.Bad = ReadValue.Bad
-floorOf l (ReadLeft.Found names n) = withClass names n l
+floorOf l (ReadLeft.Found x) = withClass (x .names) (x .len) l
 
 abbrev pub floorAt : List ℕ → ReadValue
 floorAt l = floorOf l (leftAt l)
@@ -71,7 +72,7 @@ floorAt l = floorOf l (leftAt l)
 -- "follow | NAME+..+NAME:NAME"
 abbrev pub followOf : List ℕ → ReadLeft → ReadValue
 followOf l ReadLeft.Bad = ReadValue.Bad
-followOf l (ReadLeft.Found names n) = withRight names n l
+followOf l (ReadLeft.Found x) = withRight (x .names) (x .len) l
 
 abbrev pub followAt : List ℕ → ReadValue
 followAt l = followOf l (leftAt l)
@@ -79,7 +80,7 @@ followAt l = followOf l (leftAt l)
 -- "end | COUNT"
 abbrev pub endOf : ReadCount → ReadValue
 endOf ReadCount.Bad = ReadValue.Bad
-endOf (ReadCount.Found v n) = unnamed v n
+endOf (ReadCount.Found x) = unnamed (x .value) (x .len)
 
 abbrev pub endAt : List ℕ → ReadValue
 endAt l = endOf (countAt l)

@@ -1,4 +1,5 @@
 // The left side of a rule: names with plus signs between them.
+use scans::PLUS;
 use scans::byte_at;
 use tokens::ReadName;
 use tokens::read_name;
@@ -6,14 +7,19 @@ ghost use mathlib.Core.Path.{_≡_};
 ghost use lib.ListN.{drop};
 ghost use Rattle.lines.specs.Left.{leftAt};
 
-// How many names there are, and their length with the plus signs between them.
+// A left side that stands in a text: how many names it has, and its length there, with the plus signs between them.
+pub struct LeftSide {
+    pub names: usize,
+    pub len: usize,
+}
+
 pub enum ReadLeft {
-    Found(usize, usize),
+    Found(LeftSide),
     Bad,
 }
 
-// The left side at a place: a name, and one more for each plus sign that follows.
-pub fn read_left(s: &[u8], at: usize) -> ReadLeft
+// The left side at a place: a name, and one more for each plus sign that follows. Bad where one of them is no name.
+pub(crate) fn read_left(s: &[u8], at: usize) -> ReadLeft
     ensures { λ r. ⌜ r ≡ leftAt (drop at (now (s .entry))) ⌝ }
 {
     let mut names = 0;
@@ -24,8 +30,9 @@ pub fn read_left(s: &[u8], at: usize) -> ReadLeft
         };
         let end = place + n;
         names += 1;
-        if byte_at(s, end) != b'+' {
-            return ReadLeft::Found(names, end - at);
+        if byte_at(s, end) != PLUS {
+            let len = end - at;
+            return ReadLeft::Found(LeftSide { names, len });
         }
         place = end + 1;
     }

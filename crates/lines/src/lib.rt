@@ -7,6 +7,7 @@ pub mod value;
 use keys::Key;
 use keys::ReadKey;
 use keys::read_key;
+use scans::LF;
 use scans::byte_at;
 use value::ReadValue;
 use value::Value;
@@ -27,7 +28,7 @@ pub enum ReadLine {
     Bad,
 }
 
-// The line at a place, with its LF.
+// The line at a place, with its LF. Bad where it is not one of the six forms, or no LF stands behind it.
 pub fn read_line(s: &[u8], at: usize) -> ReadLine
     ensures { λ r. ⌜ r ≡ lineAt (drop at (now (s .entry))) ⌝ }
 {
@@ -38,12 +39,8 @@ pub fn read_line(s: &[u8], at: usize) -> ReadLine
     let ReadValue::Found(value) = read_value(key, s, place) else {
         return ReadLine::Bad;
     };
-    if byte_at(s, place + value.len) != b'\n' {
+    if byte_at(s, place + value.len) != LF {
         return ReadLine::Bad;
     }
-    ReadLine::Found(Line {
-        key: key,
-        from: from,
-        value: value,
-    })
+    ReadLine::Found(Line { key, from, value })
 }

@@ -1,8 +1,11 @@
 // The value of a line: what stands between its `=` and its LF.
+use super::left::LeftSide;
 use super::left::ReadLeft;
 use super::left::read_left;
 use classes::Class;
 use keys::Key;
+use scans::COLON;
+use scans::DIGIT_1;
 use scans::byte_at;
 use tokens::ReadClass;
 use tokens::ReadCount;
@@ -32,7 +35,7 @@ pub enum ReadValue {
 }
 
 // The value of a key at a place.
-pub fn read_value(key: Key, s: &[u8], at: usize) -> ReadValue
+pub(crate) fn read_value(key: Key, s: &[u8], at: usize) -> ReadValue
     ensures { λ r. ⌜ r ≡ valueAt key (drop at (now (s .entry))) ⌝ }
 {
     match key {
@@ -54,15 +57,15 @@ fn unnamed_value(count: u64, len: usize) -> ReadValue
         left: 0,
         right: 0,
         class: Class::LOWEST,
-        count: count,
-        len: len,
+        count,
+        len,
     })
 }
 
 fn form_value(s: &[u8], at: usize) -> ReadValue
     ensures { λ r. ⌜ r ≡ formAt (drop at (now (s .entry))) ⌝ }
 {
-    if byte_at(s, at) != b'1' {
+    if byte_at(s, at) != DIGIT_1 {
         return ReadValue::Bad;
     }
     unnamed_value(0, 1)
@@ -90,76 +93,79 @@ fn cap_value(s: &[u8], at: usize) -> ReadValue
     let ReadName::Found(n) = read_name(s, at) else {
         return ReadValue::Bad;
     };
-    with_class(s, at, 1, n)
+    with_class(s, at, LeftSide { names: 1, len: n })
 }
 
 fn floor_value(s: &[u8], at: usize) -> ReadValue
     ensures { λ r. ⌜ r ≡ floorAt (drop at (now (s .entry))) ⌝ }
 {
-    let ReadLeft::Found(names, n) = read_left(s, at) else {
+    let ReadLeft::Found(left) = read_left(s, at) else {
         return ReadValue::Bad;
     };
-    with_class(s, at, names, n)
+    with_class(s, at, left)
 }
 
 fn follow_value(s: &[u8], at: usize) -> ReadValue
     ensures { λ r. ⌜ r ≡ followAt (drop at (now (s .entry))) ⌝ }
 {
-    let ReadLeft::Found(names, n) = read_left(s, at) else {
+    let ReadLeft::Found(left) = read_left(s, at) else {
         return ReadValue::Bad;
     };
-    with_right(s, at, names, n)
+    with_right(s, at, left)
 }
 
 fn end_value(s: &[u8], at: usize) -> ReadValue
     ensures { λ r. ⌜ r ≡ endAt (drop at (now (s .entry))) ⌝ }
 {
-    let ReadCount::Found(count, n) = read_count(s, at) else {
+    let ReadCount::Found(count) = read_count(s, at) else {
         return ReadValue::Bad;
     };
-    unnamed_value(count, n)
+    unnamed_value(count.value, count.len)
 }
 
-// A left side of n bytes at a place, a colon and a class.
-fn with_class(s: &[u8], at: usize, names: usize, n: usize) -> ReadValue
-    requires { ⌜ at + n ≤ length (now s) ⌝ }
-    ensures { λ r. ⌜ r ≡ withClass names n (drop at (now (s .entry))) ⌝ }
+// A left side at a place, a colon and a class.
+fn with_class(s: &[u8], at: usize, left: LeftSide) -> ReadValue
+    requires { ⌜ at + left .len ≤ length (now s) ⌝ }
+    ensures { λ r. ⌜ r ≡ withClass (left .names) (left .len) (drop at (now (s .entry))) ⌝ }
 {
-    let colon = at + n;
-    if byte_at(s, colon) != b':' {
+    let colon = at + left.len;
+    if byte_at(s, colon) != COLON {
         return ReadValue::Bad;
     }
-    let ReadClass::Found(class, k) = read_class(s, colon + 1) else {
+    let ReadClass::Found(token) = read_class(s, colon + 1) else {
         return ReadValue::Bad;
     };
+    let class = token.class;
+    let len = left.len + 1 + token.len;
     ReadValue::Found(Value {
-        names: names,
-        left: n,
+        names: left.names,
+        left: left.len,
         right: 0,
-        class: class,
+        class,
         count: 0,
-        len: n + 1 + k,
+        len,
     })
 }
 
-// A left side of n bytes at a place, a colon and a name.
-fn with_right(s: &[u8], at: usize, names: usize, n: usize) -> ReadValue
-    requires { ⌜ at + n ≤ length (now s) ⌝ }
-    ensures { λ r. ⌜ r ≡ withRight names n (drop at (now (s .entry))) ⌝ }
+// A left side at a place, a colon and a name.
+fn with_right(s: &[u8], at: usize, left: LeftSide) -> ReadValue
+    requires { ⌜ at + left .len ≤ length (now s) ⌝ }
+    ensures { λ r. ⌜ r ≡ withRight (left .names) (left .len) (drop at (now (s .entry))) ⌝ }
 {
-    let colon = at + n;
-    if byte_at(s, colon) != b':' {
+    let colon = at + left.len;
+    if byte_at(s, colon) != COLON {
         return ReadValue::Bad;
     }
-    let ReadName::Found(k) = read_name(s, colon + 1) else {
+    let ReadName::Found(n) = read_name(s, colon + 1) else {
         return ReadValue::Bad;
     };
+    let len = left.len + 1 + n;
     ReadValue::Found(Value {
-        names: names,
-        left: n,
-        right: k,
+        names: left.names,
+        left: left.len,
+        right: n,
         class: Class::LOWEST,
         count: 0,
-        len: n + 1 + k,
+        len,
     })
 }

@@ -19,26 +19,25 @@ use borrow.Author.Tests.{eq-eqb, ne-eqb, lt-ltb, ltb-true}
 use Rattle.laws.specs.Every.{everyBelow}
 use Rattle.laws.proofs.Bools.{true-not-false}
 use Rattle.laws.proofs.Every.{every-all, every-at}
-use Rattle.scans.specs.Bytes.{nameByte}
-use Rattle.items.specs.Lookup.{findIn}
+use Rattle.laws.specs.Over.{over}
+use Rattle.laws.proofs.Over.{over-none, set-over, over-over}
+use Rattle.refusals.specs.Sizes.{mostText}
+use Rattle.scans.specs.Bytes.{nameByte, runLen}
+use Rattle.scans.proofs.Runs.{run-le}
+use Rattle.items.specs.Lookup.{saidFound, findIn, FindSays}
 use Rattle.items.specs.declared.Found.{Found}
 use Rattle.items.proofs.Found as found
-use Rattle.scans.specs.Bytes.{runLen}
-use Rattle.scans.proofs.Runs.{run-le}
-use Rattle.laws.specs.Over.{over}
-use Rattle.laws.proofs.Over.{over-none}
+use Rattle.items.proofs.Lookup.{find-told}
 use Rattle.reader.specs.Names.{isItem, itemNumber, everyItem, numbersOf, rising}
 use Rattle.reader.specs.Lines.{rightItemAt}
-use Rattle.refusals.specs.Sizes.{mostText}
 use Rattle.reader.specs.Inner.{LookReady, LooksUp}
-use Rattle.reader.proofs.Put.{over-next}
 
 -- What is not At is no item.
 pub not-item : (x : Found) → OneOf (1 ∷ 2 ∷ []) (enum.Declared.tagOf found.the-type x) → isItem x ≡ false
 not-item (Found.At i) (inl e) = absurd (omega arith)
 not-item (Found.At i) (inr e) = absurd (omega arith)
 not-item Found.Absent h = refl
-not-item Found.BadTable h = refl
+not-item (Found.Refused r) h = refl
 
 -- The part of a text that is lent has the bytes at a place, as many as there are.
 pub part-at : (s : List ℕ) (at len : ℕ) {from size : ℕ} → from ≡ min at (length s) → size ≡ min len (length s - from)
@@ -58,8 +57,8 @@ part-at s at len {from} {size} e f = rw (same, begin (decLe at (length s))) (cut
         take-all size (drop at s) (omega (arith, e, f, length-drop at s)) ∙ sym (take-all len (drop at s) (omega arith))
 
 pub found-at : (s : List ℕ) (at len : ℕ) (t : List ℕ) (n : ℕ) {from size : ℕ} → from ≡ min at (length s) → size ≡ min len (length s - from)
-    → {r : Found} → r ≡ findIn t n (take (from + size - from) (drop from s)) → r ≡ findIn t n (take len (drop at s))
-found-at s at len t n e f g = g ∙ ap (findIn t n) (part-at s at len e f)
+    → {r : Found} → FindSays t n (take (from + size - from) (drop from s)) (saidFound r) → r ≡ findIn t n (take len (drop at s))
+found-at s at len t n e f g = find-told g ∙ ap (findIn t n) (part-at s at len e f)
 
 -- The right name.
 pub right-none : (t : List ℕ) (n len : ℕ) (l : List ℕ) → len ≡ 0 → Found.At 0 ≡ rightItemAt t n len l
@@ -101,6 +100,10 @@ rising-not {left} {k} w count g h = refuse (everyBelow (count - 1) (λ j. ltb (g
 pub rising-all : {left : List ℕ} {k : ℕ} → Rising left k → (count : ℕ) → count ≤ k → true ≡ rising count left
 unfolding rising
 rising-all {left} {k} w count h = sym (every-all (count - 1) _ (λ j i. lt-ltb _ _ (w .below j (omega arith))))
+
+-- What is put from a place on, with its first number put already.
+over-next : (d : List ℕ) (k b : ℕ) (x : List ℕ) → k < length d → over (set d k b) (k + 1) x ≡ over d k (b ∷ x)
+over-next d k b x h = rw (set-over d k b h) (over-over d k (b ∷ []) (omega arith) x)
 
 -- Left names looked up one after the other: k of them are, and the next one stands at `place`.
 pub record Looking (text : List ℕ) (at count : ℕ) (t : List ℕ) (n : ℕ) (left₀ left : List ℕ) (place k : ℕ) : Type 0 where

@@ -1,96 +1,58 @@
--- Where a refusal of reading is: at a line that is at most two past the bytes of the text. It rests on the definition of a step, answer by answer, and
--- on what a line that moves on says.
+-- Where a refusal of reading is: at a line that is at most two past the bytes of the text, so that a place has at most five digits. It rests on what each line
+-- does, by induction over the lines.
 -- Assumes nothing.
-use mathlib.Core.List.{List, [], _∷_}
-use mathlib.Core.Bool.{_&&_}
-use Prim.Native.Nat.{ℕ, zero, suc, _+_, _≤_}
+use mathlib.Core.Path.{_≡_, refl, subst}
+use mathlib.Core.Bool.{Bool, true, false, cond}
+use mathlib.Core.List.{List}
+use Prim.Native.Nat.{ℕ, _+_, _≤_}
 use native.Mathlib.Nat.{le-refl}
 use native.Mathlib.Omega.{arith}
-use lib.Dec.{ltb, leb, eqb}
+use lib.Dec.{ltb}
 use lib.ListN.{length, drop, length-drop}
-use Rattle.refusals.specs.Sizes.{mostItems}
-use Rattle.items.specs.Lookup.{findIn}
-use Rattle.refusals.specs.Sizes.{mostRules, mostLeft}
-use Rattle.keys.specs.Keys.{keyNumber, nextAllowed}
-use Rattle.keys.specs.declared.Key.{Key}
-use Rattle.lines.specs.Lines.{lineAt, lineLen}
+use borrow.Author.Tests.{ltb-false}
+use Rattle.refusals.specs.Sizes.{mostText}
+use Rattle.refusals.specs.declared.Fault.{Fault}
+use Rattle.refusals.specs.declared.Refusal.{Refusal}
+use Rattle.lines.specs.Lines.{lineLen}
 use Rattle.lines.specs.declared.Line.{Line}
-use Rattle.lines.specs.declared.ReadLine.{ReadLine}
+use Rattle.lines.proofs.Told.{LineHere}
 use Rattle.reader.specs.declared.ReadBook.{ReadBook}
-use Rattle.reader.specs.Names.{rising}
-use Rattle.reader.specs.Lines.{State, Turn, on, stop, isAbsent, itemName, leftPlaces, leftNumbers, allFound, itemStep, ruleStep, endStep, keyStep, lineStep, step}
-use Rattle.reader.specs.Reading.{goOn, readFrom}
-use Rattle.reader.proofs.Whole.{Few, TurnSays, either, step-says}
+use Rattle.reader.specs.Lines.{State, start, Result, refusedAt}
+use Rattle.reader.specs.Reading.{readText, readWhole}
+use Rattle.reader.proofs.LineCases.{Cases, read-says}
 
 -- A refusal is at most n.
-abbrev pub Near : ℕ → ReadBook → Type 0
-Near n (ReadBook.Book i r) = Unit
-Near n (ReadBook.Refused f p) = p ≤ n
+abbrev Near : ℕ → ReadBook → Type 0
+Near n (ReadBook.Book h) = Unit
+Near n (ReadBook.Refused r) = r .place ≤ n
 
--- A line that stops is refused at itself or at the next line.
-abbrev StopNear : State → Turn → Type 0
-StopNear st (on next k) = Unit
-StopNear st (stop r) = Near (st .counts .lines + 2) (r .answer)
+-- The lines that were read and the bytes that are still to be read are at most n.
+record Left (n : ℕ) (st : State) (l : List ℕ) : Type 0 where
+  most : st .counts .lines + length l ≤ n
 
-here : (st : State) → st .counts .lines + 1 ≤ st .counts .lines + 2
-here st = omega arith
+left-cases : (n : ℕ) (st : State) (l : List ℕ) → Left n st l → Cases st l (λ next k. Left n next (drop k l)) (λ r. Near (n + 2) (r .answer))
+left-cases n st l p = record {
+  refused = λ f q h. omega (arith, p .most);
+  form = λ x h. fewer x (h .stands) refl;
+  item = λ x h. fewer x (h .stands) refl;
+  rule = λ x h. fewer x (h .stands) refl;
+  end = λ x h. tt;
+}
+  where
+    fewer : {next : State} (x : Line) → LineHere l x → next .counts .lines ≡ st .counts .lines + 1 → Left n next (drop (lineLen x) l)
+    fewer x h e = record { most = omega (arith, p .most, h .some, length-drop (lineLen x) l, e) }
 
-module _ (st : State) (l : List ℕ) (x : Line) where
-  item-near : StopNear st (itemStep st l x)
-  unfolding itemStep
-  item-near =
-      either (StopNear st) (ltb (st .counts .items) mostItems) _ _
-      (λ h. either (StopNear st) (isAbsent (findIn (st .names) (st .counts .items) (itemName l x))) _ _ (λ g. tt) (here st))
-      (here st)
+read-near : (l : List ℕ) → Near (length l + 2) (readText l .answer)
+read-near l = read-says (Left (length l)) (λ r. Near (length l + 2) (r .answer)) (left-cases (length l)) (length l) start l (record { most = omega arith })
 
-  rule-near : StopNear st (ruleStep st l x)
-  unfolding ruleStep
-  rule-near =
-      either (StopNear st) (ltb (st .counts .rules) mostRules && leb (x .value .names) mostLeft) _ _
-      (λ h. either (StopNear st) (allFound st l x) _ _
-      (λ h. either (StopNear st) (rising (x .value .names) (leftPlaces (leftNumbers st l x))) _ _ (λ g. tt) (here st))
-      (here st))
-      (here st)
+near-more : (m n : ℕ) (r : ReadBook) → m ≤ n → Near m r → Near n r
+near-more m n (ReadBook.Book b) h g = tt
+near-more m n (ReadBook.Refused r) h g = omega arith
 
-  end-near : StopNear st (endStep st l x)
-  unfolding endStep
-  end-near =
-      either (StopNear st) (eqb (x .value .count) (st .counts .lines)) _ _
-      (λ h. either (StopNear st) (eqb (length l) (lineLen x)) _ _ (λ g. tt) (le-refl _))
-      (here st)
+whole-near : (l : List ℕ) (b : Bool) → ltb mostText (length l) ≡ b → Near (mostText + 2) (cond b (refusedAt Fault.TooLong 0) (readText l .answer))
+whole-near l true e = omega arith
+whole-near l false e = near-more (length l + 2) (mostText + 2) (readText l .answer) (omega (arith, ltb-false mostText (length l) e)) (read-near l)
 
-  key-near : (k : Key) → StopNear st (keyStep k st l x)
-  key-near Key.Form = tt
-  key-near Key.Item = item-near
-  key-near Key.Cap = rule-near
-  key-near Key.Floor = rule-near
-  key-near Key.Follow = rule-near
-  key-near Key.End = end-near
-
-line-near : (st : State) (l : List ℕ) (y : ReadLine) → StopNear st (lineStep st l y)
-unfolding lineStep
-line-near st l ReadLine.Bad = here st
-line-near st l (ReadLine.Found x) =
-    either (StopNear st) (nextAllowed (st .counts .after) (keyNumber (x .key))) _ _ (λ h. key-near st l x (x .key)) (here st)
-
-step-near : (st : State) (l : List ℕ) → StopNear st (step st l)
-unfolding step
-step-near st [] = here st
-step-near st (b ∷ l) = line-near st (b ∷ l) (lineAt (b ∷ l))
-
-pub near-more : (m n : ℕ) (r : ReadBook) → m ≤ n → Near m r → Near n r
-near-more m n (ReadBook.Book i k) h g = tt
-near-more m n (ReadBook.Refused f p) h g = omega arith
-
-go-near : (f : ℕ) (st : State) (l : List ℕ) (t : Turn) → TurnSays st l t → StopNear st t
-    → ((next : State) (k : ℕ) → Few (next .counts) → Near (next .counts .lines + length (drop k l) + 2) (readFrom f next (drop k l) .answer))
-    → Near (st .counts .lines + length l + 2) (goOn (λ next k. readFrom f next (drop k l)) t .answer)
-go-near f st l (on next k) w s g =
-    near-more (next .counts .lines + length (drop k l) + 2) (st .counts .lines + length l + 2) (readFrom f next (drop k l) .answer)
-    (omega (arith, w .some, w .within, w .lines, length-drop k l)) (g next k (w .few))
-go-near f st l (stop r) w s g = near-more (st .counts .lines + 2) (st .counts .lines + length l + 2) (r .answer) (omega arith) s
-
-pub read-near : (f : ℕ) (st : State) (l : List ℕ) → Few (st .counts) → Near (st .counts .lines + length l + 2) (readFrom f st l .answer)
-unfolding readFrom
-read-near zero st l few = omega arith
-read-near (suc f) st l few = go-near f st l (step st l) (step-says st l few) (step-near st l) (λ next k h. read-near f next (drop k l) h)
+-- The place of a refusal has at most five digits.
+pub place-small : (l : List ℕ) (r : Refusal) → readWhole l ≡ ReadBook.Refused r → r .place ≤ mostText + 2
+place-small l r e = subst (Near (mostText + 2)) e (whole-near l (ltb mostText (length l)) refl)

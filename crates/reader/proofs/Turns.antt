@@ -15,30 +15,30 @@ use mir.Val.{Fits}
 use types.Run.{OneOf}
 use denote.Enum as enum
 use borrow.Author.Tests.{eq-eqb, ne-eqb, lt-ltb, le-ltb, le-leb, lt-leb, not-true, not-false}
+use Rattle.laws.specs.Over.{over}
+use Rattle.refusals.specs.Sizes.{mostText, mostItems, mostRules, mostLeft}
+use Rattle.refusals.specs.declared.Fault.{Fault}
 use Rattle.items.specs.Names.{nameRoom}
-use Rattle.refusals.specs.Sizes.{mostItems}
 use Rattle.items.specs.Lookup.{findIn}
 use Rattle.items.specs.declared.Found.{Found}
 use Rattle.items.proofs.Found as found
+use Rattle.rules.specs.Table.{ruleWords, RulePut}
 use Rattle.rules.specs.declared.Rule.{Rule}
-use Rattle.refusals.specs.Sizes.{mostRules, mostLeft}
+use Rattle.rules.proofs.Put.{put-told}
 use Rattle.keys.specs.Keys.{keyNumber, nextAllowed}
 use Rattle.keys.specs.declared.Key.{Key}
 use Rattle.puts.specs.Writing.{Put}
-use Rattle.laws.specs.Over.{over}
 use Rattle.puts.proofs.Placed.{put-buffer}
 use Rattle.lines.specs.Lines.{lineAt, lineLen}
 use Rattle.lines.specs.declared.Line.{Line}
 use Rattle.lines.specs.declared.ReadLine.{ReadLine}
 use Rattle.lines.proofs.Told.{LineHere, line-here}
-use Rattle.refusals.specs.declared.Fault.{Fault}
 use Rattle.reader.specs.declared.ReadBook.{ReadBook}
 use Rattle.reader.specs.declared.line.Counts.{Counts}
 use Rattle.reader.specs.declared.line.Stepped.{Stepped}
 use Rattle.reader.specs.Names.{everyItem, numbersOf, rising}
-use Rattle.reader.specs.Lines.{State, Turn, counted, isAbsent, itemStep, ruleKind, wordsOf, leftPlaces, rightItemAt, allFound, ruleStep, endStep, keyStep, lineStep, step}
-use Rattle.refusals.specs.Sizes.{mostText}
-use Rattle.reader.specs.Inner.{stateOf, turnOf, Ready, LineReady, ItemReady, RuleReady, refusedAt, ItemStepped, EndStepped, LookReady, LooksUp}
+use Rattle.reader.specs.Lines.{State, Turn, refusedAt, headOf, counted, isAbsent, itemStep, ruleKind, leftPlaces, rightItemAt, allFound, ruleStep, endStep, keyStep, lineStep, step}
+use Rattle.reader.specs.Inner.{stateOf, turnOf, Ready, LineReady, ItemReady, RuleReady, stopsAt, ItemStepped, EndStepped, LookReady, LooksUp}
 use Rattle.reader.proofs.LookUps.{not-item}
 
 -- A key's number is at most 5.
@@ -68,7 +68,7 @@ place-of {text} {at} {x} r =
       short = omega (arith, h .within, length-drop at text, r .text);
     }
 
-pub line-short : {text : List ℕ} {at : ℕ} {x : Line} {c : Counts} → LineReady text at x c → lineLen x ≤ 32768
+pub line-short : {text : List ℕ} {at : ℕ} {x : Line} {c : Counts} → LineReady text at x c → lineLen x ≤ mostText
 line-short r = place-of r .short
 
 pub line-inside : {text : List ℕ} {at : ℕ} {x : Line} {c : Counts} → LineReady text at x c → at ≤ length text
@@ -76,19 +76,19 @@ line-inside r = omega (arith, place-of r .end)
 
 -- The end line.
 module _ (text : List ℕ) (at : ℕ) {x : Line} {c : Counts} where
-  pub end-wrong : {r : Stepped} → r ≡ refusedAt (c .lines + 1) Fault.EndCount → (x .value .count ≡ c .lines → ⊥) → EndStepped c (drop at text) x r
+  pub end-wrong : {r : Stepped} → r ≡ stopsAt Fault.EndCount (c .lines + 1) → (x .value .count ≡ c .lines → ⊥) → EndStepped c (drop at text) x r
   unfolding endStep
   end-wrong e f = record { turn = λ names words. rw (e, ne-eqb (x .value .count) (c .lines) f) }
 
   module _ (f : x .value .count ≡ c .lines) {k : ℕ} (g : k ≡ lineLen x) where
-    pub end-more : (length text - at ≡ k → ⊥) → EndStepped c (drop at text) x (refusedAt (c .lines + 2) Fault.EndCount)
+    pub end-more : (length text - at ≡ k → ⊥) → {a : ReadBook} → a ≡ refusedAt Fault.EndCount (c .lines + 2) → EndStepped c (drop at text) x (Stepped.Stop a)
     unfolding endStep
-    end-more h = record {
+    end-more h e = record {
       turn = λ names words.
-          rw (eq-eqb (x .value .count) (c .lines) f, length-drop at text, ← g, ne-eqb (length text - at) k h);
+          rw (e, eq-eqb (x .value .count) (c .lines) f, length-drop at text, ← g, ne-eqb (length text - at) k h);
     }
 
-    pub end-right : length text - at ≡ k → EndStepped c (drop at text) x (Stepped.Stop (ReadBook.Book (c .items) (c .rules)))
+    pub end-right : length text - at ≡ k → EndStepped c (drop at text) x (Stepped.Stop (ReadBook.Book (headOf c)))
     unfolding endStep
     end-right h = record {
       turn = λ names words.
@@ -100,10 +100,10 @@ pub not-absent : (x : Found) → OneOf (0 ∷ 2 ∷ []) (enum.Declared.tagOf fou
 not-absent Found.Absent (inl e) = absurd (omega arith)
 not-absent Found.Absent (inr e) = absurd (omega arith)
 not-absent (Found.At i) h = refl
-not-absent Found.BadTable h = refl
+not-absent (Found.Refused r) h = refl
 
 module _ (text : List ℕ) (at : ℕ) {x : Line} {c : Counts} {names : List ℕ} where
-  pub item-full : {r : Stepped} → r ≡ refusedAt (c .lines + 1) Fault.TooMany → 256 ≤ c .items → ItemStepped c names (drop at text) x r names
+  pub item-full : {r : Stepped} → r ≡ stopsAt Fault.TooMany (c .lines + 1) → mostItems ≤ c .items → ItemStepped c names (drop at text) x r names
   unfolding itemStep
   item-full e h = record { turn = λ words. rw (e, le-ltb (c .items) mostItems h) }
 
@@ -129,18 +129,18 @@ module _ (text : List ℕ) (at : ℕ) {x : Line} {c : Counts} {names : List ℕ}
         length-take-le (x .value .left) (drop (x .from) (drop at text))
         (omega (arith, p .line .left, p .line .within, length-drop (x .from) (drop at text)))
 
-    module _ (few : c .items < 256) {y : Found}
-        (e : y ≡ findIn names (c .items) (take (at + x .from + x .value .left - (at + x .from)) (drop (at + x .from) text))) where
+    module _ (few : c .items < mostItems) {y : Found}
+        (e : y ≡ findIn names (c .items) (take (x .value .left) (drop (at + x .from) text))) where
       looked : findIn names (c .items) (take (x .value .left) (drop (x .from) (drop at text))) ≡ y
-      looked = ap (findIn names (c .items)) (sym part) ∙ sym e
+      looked = rw (drop-drop (x .from) at text) (sym e)
 
-      pub item-twice : {r : Stepped} → r ≡ refusedAt (c .lines + 1) Fault.NameTwice → OneOf (0 ∷ 2 ∷ []) (enum.Declared.tagOf found.the-type y)
+      pub item-twice : {r : Stepped} → r ≡ stopsAt Fault.NameTwice (c .lines + 1) → OneOf (0 ∷ 2 ∷ []) (enum.Declared.tagOf found.the-type y)
           → ItemStepped c names (drop at text) x r names
       unfolding itemStep
       item-twice f g = record { turn = λ words. rw (f, lt-ltb (c .items) mostItems few, looked, not-absent y g) }
 
       pub item-new : y ≡ Found.Absent → {names′ : List ℕ} {q : ℕ}
-          → Put names (c .items * 16) (take (at + x .from + x .value .left - (at + x .from)) (drop (at + x .from) text)) names′ q
+          → Put names (c .items * nameRoom) (take (at + x .from + x .value .left - (at + x .from)) (drop (at + x .from) text)) names′ q
           → {d : Counts} → d ≡ counted c Key.Item (c .items + 1) (c .rules) → {k : ℕ} → k ≡ lineLen x
           → ItemStepped c names (drop at text) x (Stepped.On d k) names′
       unfolding itemStep
@@ -155,20 +155,20 @@ module _ (text : List ℕ) (at : ℕ) {x : Line} {c : Counts} {names : List ℕ}
 
 -- A rule's line.
 module _ (text : List ℕ) (at : ℕ) (x : Line) (c : Counts) (names words : List ℕ) where
-  pub rule-full : {r : Stepped} → r ≡ refusedAt (c .lines + 1) Fault.TooMany → 1024 ≤ c .rules → turnOf r names words ≡ ruleStep (stateOf c names words) (drop at text) x
+  pub rule-full : {r : Stepped} → r ≡ stopsAt Fault.TooMany (c .lines + 1) → mostRules ≤ c .rules → turnOf r names words ≡ ruleStep (stateOf c names words) (drop at text) x
   unfolding ruleStep
   rule-full e h = rw (e, le-ltb (c .rules) mostRules h)
 
-  module _ (few : c .rules < 1024) where
-    pub rule-ninth : {r : Stepped} → r ≡ refusedAt (c .lines + 1) Fault.TooMany → 8 < x .value .names → turnOf r names words ≡ ruleStep (stateOf c names words) (drop at text) x
+  module _ (few : c .rules < mostRules) where
+    pub rule-ninth : {r : Stepped} → r ≡ stopsAt Fault.TooMany (c .lines + 1) → mostLeft < x .value .names → turnOf r names words ≡ ruleStep (stateOf c names words) (drop at text) x
     unfolding ruleStep
     rule-ninth e h = rw (e, lt-ltb (c .rules) mostRules few, lt-leb (x .value .names) mostLeft h)
 
-    module _ (eight : x .value .names ≤ 8) (ready : RuleReady text at x c words) where
+    module _ (eight : x .value .names ≤ mostLeft) (ready : RuleReady text at x c words) where
       pub rule-from : length text < 2 ^ 64 → Fits w64 (at + x .from)
       rule-from h = let p = place-of (ready .line) in record { fits = omega (arith, p .end, p .line .left) }
 
-      pub rule-look : {left : List ℕ} → length left ≡ 8 → LookReady text (at + x .from) (x .value .names) left
+      pub rule-look : {left : List ℕ} → length left ≡ mostLeft → LookReady text (at + x .from) (x .value .names) left
       rule-look e =
           let p = place-of (ready .line) in
           record { text = ready .line .text; place = omega (arith, p .end, p .line .left, ready .line .text); few = eight; room = e }
@@ -182,12 +182,12 @@ module _ (text : List ℕ) (at : ℕ) (x : Line) (c : Counts) (names words : Lis
       front : drop (at + x .from) text ≡ drop (x .from) (drop at text)
       front = sym (drop-drop (x .from) at text)
 
-      module _ {left left′ : List ℕ} {b : Bool} (e : left ≡ replicate 8 0)
+      module _ {left left′ : List ℕ} {b : Bool} (e : left ≡ replicate mostLeft 0)
           (f : LooksUp names (c .items) (x .value .names) (drop (at + x .from) text) left b left′) where
         every : everyItem names (c .items) (x .value .names) (drop (x .from) (drop at text)) ≡ b
         every = ap (everyItem names (c .items) (x .value .names)) (sym front) ∙ sym (f .told)
 
-        pub rule-no-left : {r : Stepped} → r ≡ refusedAt (c .lines + 1) Fault.NoSuchItem → not b ≡ true → turnOf r names words ≡ ruleStep (stateOf c names words) (drop at text) x
+        pub rule-no-left : {r : Stepped} → r ≡ stopsAt Fault.NoSuchItem (c .lines + 1) → not b ≡ true → turnOf r names words ≡ ruleStep (stateOf c names words) (drop at text) x
         unfolding ruleStep allFound
         rule-no-left g h =
             rw (g, lt-ltb (c .rules) mostRules few, le-leb (x .value .names) mostLeft eight, every, not-true b h)
@@ -199,7 +199,7 @@ module _ (text : List ℕ) (at : ℕ) (x : Line) (c : Counts) (names words : Lis
               ap (rightItemAt names (c .items) (x .value .right)) (drop-drop (x .from + x .value .left + 1) at text)
               ∙ rw (← add-assoc at (x .from + x .value .left) 1, ← add-assoc at (x .from) (x .value .left)) (sym i)
 
-          pub rule-no-right : {r : Stepped} → r ≡ refusedAt (c .lines + 1) Fault.NoSuchItem
+          pub rule-no-right : {r : Stepped} → r ≡ stopsAt Fault.NoSuchItem (c .lines + 1)
               → OneOf (1 ∷ 2 ∷ []) (enum.Declared.tagOf found.the-type y) → turnOf r names words ≡ ruleStep (stateOf c names words) (drop at text) x
           unfolding ruleStep allFound
           rule-no-right g j =
@@ -209,7 +209,7 @@ module _ (text : List ℕ) (at : ℕ) (x : Line) (c : Counts) (names words : Lis
             places : left′ ≡ leftPlaces (numbersOf names (c .items) (x .value .names) (drop (x .from) (drop at text)))
             places = f .items (not-false b h) ∙ rw (e, front)
 
-            pub rule-order : {r : Stepped} → r ≡ refusedAt (c .lines + 1) Fault.LeftOrder → not d ≡ true → turnOf r names words ≡ ruleStep (stateOf c names words) (drop at text) x
+            pub rule-order : {r : Stepped} → r ≡ stopsAt Fault.LeftOrder (c .lines + 1) → not d ≡ true → turnOf r names words ≡ ruleStep (stateOf c names words) (drop at text) x
             unfolding ruleStep allFound
             rule-order o p =
                 rw (
@@ -227,13 +227,13 @@ module _ (text : List ℕ) (at : ℕ) (x : Line) (c : Counts) (names words : Lis
 
             pub rule-new : not d ≡ false → {z : Rule} {u : ℕ} → u ≡ ruleKind (x .key)
                 → z ≡ record { kind = u; count = x .value .names; left = left′; right = k; class = x .value .class }
-                → {words′ : List ℕ} → words′ ≡ over words (c .rules * 13) (wordsOf z)
+                → {b′ : Bool} {words′ : List ℕ} → RulePut z (c .rules) words b′ words′
                 → {e′ : Counts} → e′ ≡ counted c (x .key) (c .items) (c .rules + 1) → {n : ℕ} → n ≡ lineLen x
                 → turnOf (Stepped.On e′ n) names words′ ≡ ruleStep (stateOf c names words) (drop at text) x
             unfolding ruleStep allFound
-            rule-new p {z} {u} q s {words′} v {e′} w {n} o =
+            rule-new p {z} {u} q s {b′} {words′} v {e′} w {n} o =
                 rw (
-                  v,
+                  put-told v (omega (arith, ready .room)),
                   s,
                   q,
                   w,
@@ -262,7 +262,7 @@ pub rule-ready : {text : List ℕ} {at : ℕ} {x : Line} {c : Counts} {names wor
     → y ≡ ReadLine.Found x → RuleReady text at x c words
 rule-ready r e f = record { line = line-ready r e f; room = r .words-room }
 
-pub step-none : (text : List ℕ) (at : ℕ) (c : Counts) (names words : List ℕ) {r : Stepped} → length text ≤ at → r ≡ refusedAt (c .lines + 1) Fault.EndCount
+pub step-none : (text : List ℕ) (at : ℕ) (c : Counts) (names words : List ℕ) {r : Stepped} → length text ≤ at → r ≡ stopsAt Fault.EndCount (c .lines + 1)
     → turnOf r names words ≡ step (stateOf c names words) (drop at text)
 unfolding step
 step-none text at c names words h e = rw (e, drop-of-length-le text {i = at} h)
@@ -276,7 +276,7 @@ module _ (text : List ℕ) (at : ℕ) (c : Counts) (names words : List ℕ) (h :
   first : step (stateOf c names words) (drop at text) ≡ lineStep (stateOf c names words) (drop at text) y
   first = line-step (stateOf c names words) (drop at text) (omega (arith, length-drop at text)) ∙ rw (← e)
 
-  pub step-syntax : {r : Stepped} → y ≡ ReadLine.Bad → r ≡ refusedAt (c .lines + 1) Fault.Syntax
+  pub step-syntax : {r : Stepped} → y ≡ ReadLine.Bad → r ≡ stopsAt Fault.Syntax (c .lines + 1)
       → turnOf r names words ≡ step (stateOf c names words) (drop at text)
   unfolding lineStep
   step-syntax f g = rw g (sym (first ∙ rw f))
@@ -285,7 +285,7 @@ module _ (text : List ℕ) (at : ℕ) (c : Counts) (names words : List ℕ) (h :
     table : nextAllowed (c .after) (keyNumber (x .key)) ≡ b
     table = rw (← g) (sym i)
 
-    pub step-order : {r : Stepped} → not b ≡ true → r ≡ refusedAt (c .lines + 1) Fault.Order
+    pub step-order : {r : Stepped} → not b ≡ true → r ≡ stopsAt Fault.Order (c .lines + 1)
         → turnOf r names words ≡ step (stateOf c names words) (drop at text)
     unfolding lineStep
     step-order j k = rw k (sym (first ∙ rw (f, table, not-true b j)))

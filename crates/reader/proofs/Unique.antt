@@ -1,10 +1,26 @@
--- The promise of `read` fixes the answer and both tables: any two results that it allows are equal.
+-- The promise of `read` fixes the answer and both tables: an answer is known by what it says, and any two results that are allowed are equal.
 -- Assumes nothing.
-use mathlib.Core.Path.{_≡_, sym, _∙_}
+use mathlib.Core.Path.{_≡_, refl, sym, ap, _∙_}
 use mathlib.Core.List.{List}
 use Prim.Native.Nat.{ℕ}
+use lib.ListN.{length, getD}
+use Rattle.refusals.specs.Said.{Said, success, refused}
+use Rattle.refusals.proofs.Said.{said-injective, refusalOf, refusal-back}
 use Rattle.reader.specs.declared.ReadBook.{ReadBook}
-use Rattle.reader.specs.Reading.{ReadSays}
+use Rattle.reader.specs.Reading.{saidRead, readAnswer, ReadSays}
+
+-- An answer is known by what it says.
+abbrev bookOf : Said → ReadBook
+bookOf (success c l) = ReadBook.Book (record { items = getD l 0 0; rules = getD l 1 0 })
+bookOf (refused n p) = ReadBook.Refused (refusalOf n p)
+
+book-back : (x : ReadBook) → bookOf (saidRead x) ≡ x
+book-back (ReadBook.Book h) = refl
+book-back (ReadBook.Refused r) = ap ReadBook.Refused (refusal-back r)
+
+pub read-told : {l items rules : List ℕ} {r : ReadBook} {items′ rules′ : List ℕ} → ReadSays l items rules (saidRead r) items′ rules′
+    → r ≡ readAnswer l (length items) (length rules)
+read-told s = said-injective saidRead bookOf book-back (s .answer)
 
 -- Two results of reading are equal.
 pub record Same (a b : ReadBook) (items rules items′ rules′ : List ℕ) : Type 0 where
@@ -12,8 +28,10 @@ pub record Same (a b : ReadBook) (items rules items′ rules′ : List ℕ) : Ty
   pub items-same : items ≡ items′
   pub rules-same : rules ≡ rules′
 
-pub read-unique : {l items rules : List ℕ} {a b : ReadBook} {items₁ rules₁ items₂ rules₂ : List ℕ} → ReadSays l items rules a items₁ rules₁
-    → ReadSays l items rules b items₂ rules₂ → Same a b items₁ rules₁ items₂ rules₂
-read-unique p q =
-    let same = p .answer ∙ sym (q .answer) in
-    record { answer = same; items-same = p .items-after ∙ rw same (sym (q .items-after)); rules-same = p .rules-after ∙ rw same (sym (q .rules-after)) }
+pub read-unique : {l items rules : List ℕ} {a b : ReadBook} {items₁ rules₁ items₂ rules₂ : List ℕ} → ReadSays l items rules (saidRead a) items₁ rules₁
+    → ReadSays l items rules (saidRead b) items₂ rules₂ → Same a b items₁ rules₁ items₂ rules₂
+read-unique p q = record {
+  answer = read-told p ∙ sym (read-told q);
+  items-same = p .items-after ∙ sym (q .items-after);
+  rules-same = p .rules-after ∙ sym (q .rules-after);
+}

@@ -3,12 +3,11 @@
 use mathlib.Core.Path.{_≡_}
 use mathlib.Core.Bool.{Bool, true}
 use mathlib.Core.List.{List}
-use Prim.Native.Nat.{ℕ, _*_, _≤_, _<_}
+use Prim.Native.Nat.{ℕ, _*_, _≤_}
 use lib.ListN.{length, drop}
+use Rattle.refusals.specs.Sizes.{mostText, mostItems, mostRules, mostLeft}
 use Rattle.items.specs.Names.{nameRoom}
-use Rattle.refusals.specs.Sizes.{mostItems}
 use Rattle.rules.specs.Table.{ruleWords}
-use Rattle.refusals.specs.Sizes.{mostRules, mostLeft}
 use Rattle.keys.specs.declared.Key.{Key}
 use Rattle.laws.specs.Over.{over}
 use Rattle.lines.specs.Lines.{lineAt}
@@ -19,8 +18,8 @@ use Rattle.reader.specs.declared.ReadBook.{ReadBook}
 use Rattle.reader.specs.declared.line.Counts.{Counts}
 use Rattle.reader.specs.declared.line.Stepped.{Stepped}
 use Rattle.reader.specs.Names.{everyItem, numbersOf}
-use Rattle.reader.specs.Lines.{State, Result, Turn, on, stop, emptyNames, emptyWords, itemStep, endStep}
-use Rattle.refusals.specs.Sizes.{mostText}
+use Rattle.reader.specs.Lines.{State, Turn, on, stop, refusedAt, emptyNames, emptyWords, itemStep, endStep}
+use Rattle.reader.specs.Reading.{readText}
 
 abbrev pub stateOf : Counts → List ℕ → List ℕ → State
 stateOf c names words = record { counts = c; names = names; words = words }
@@ -42,11 +41,12 @@ pub record StartsEmpty (l names words : List ℕ) : Type 0 where
   pub names-empty : names ≡ emptyNames
   pub words-empty : words ≡ emptyWords
 
-abbrev pub resultIs : ReadBook → List ℕ → List ℕ → Result
-resultIs a names words = record { answer = a; names = names; words = words }
+-- The text gives the answer a, with these tables.
+pub record Gives (l : List ℕ) (a : ReadBook) (names words : List ℕ) : Type 0 where
+  pub result : readText l ≡ record { answer = a; names = names; words = words }
 
-abbrev pub refusedAt : ℕ → Fault → Stepped
-refusedAt line f = Stepped.Stop (ReadBook.Refused f line)
+abbrev pub stopsAt : Fault → ℕ → Stepped
+stopsAt f line = Stepped.Stop (refusedAt f line)
 
 -- The line stands at a place of a text that is not too long.
 pub record LineReady (l : List ℕ) (at : ℕ) (x : Line) (c : Counts) : Type 0 where
@@ -76,11 +76,6 @@ pub record LookReady (l : List ℕ) (at count : ℕ) (left : List ℕ) : Type 0 
 pub record LooksUp (t : List ℕ) (n c : ℕ) (l left : List ℕ) (r : Bool) (left′ : List ℕ) : Type 0 where
   pub told : r ≡ everyItem t n c l
   pub items : r ≡ true → left′ ≡ over left 0 (numbersOf t n c l)
-
--- There is room for rule r.
-pub record RuleRoom (r : ℕ) (words : List ℕ) : Type 0 where
-  pub rule : r < mostRules
-  pub room : length words ≡ mostRules * ruleWords
 
 -- An item's line and the end line leave the other tables as they are.
 pub record ItemStepped (c : Counts) (names l : List ℕ) (x : Line) (r : Stepped) (names′ : List ℕ) : Type 0 where

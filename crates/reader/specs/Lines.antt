@@ -6,21 +6,20 @@ use mathlib.Core.List.{List, [], _∷_}
 use Prim.Native.Nat.{ℕ, _+_, _*_}
 use lib.Dec.{ltb, leb, eqb}
 use lib.ListN.{length, take, drop, replicate}
+use Rattle.laws.specs.Over.{over}
+use Rattle.refusals.specs.Sizes.{mostItems, mostRules, mostLeft}
+use Rattle.refusals.specs.declared.Fault.{Fault}
 use Rattle.items.specs.Names.{nameRoom}
-use Rattle.refusals.specs.Sizes.{mostItems}
 use Rattle.items.specs.Lookup.{findIn}
 use Rattle.items.specs.declared.Found.{Found}
-use Rattle.rules.specs.Record.{leftItem}
-use Rattle.rules.specs.Table.{ruleWords}
+use Rattle.rules.specs.Table.{ruleWords, wordsOf}
+use Rattle.rules.specs.declared.Head.{Head}
 use Rattle.rules.specs.declared.Rule.{Rule}
-use Rattle.refusals.specs.Sizes.{mostRules, mostLeft}
 use Rattle.keys.specs.Keys.{keyNumber, nextAllowed}
 use Rattle.keys.specs.declared.Key.{Key}
-use Rattle.laws.specs.Over.{over}
 use Rattle.lines.specs.Lines.{lineAt, lineLen}
 use Rattle.lines.specs.declared.Line.{Line}
 use Rattle.lines.specs.declared.ReadLine.{ReadLine}
-use Rattle.refusals.specs.declared.Fault.{Fault}
 use Rattle.reader.specs.declared.ReadBook.{ReadBook}
 use Rattle.reader.specs.declared.line.Counts.{Counts}
 use Rattle.reader.specs.Names.{isItem, itemNumber, everyItem, numbersOf, rising}
@@ -55,9 +54,12 @@ pub data Turn : Type 0 where
   on : State → ℕ → Turn
   stop : Result → Turn
 
--- A refusal at the line that is read.
+-- A fault at a place, and at the line that is read.
+abbrev pub refusedAt : Fault → ℕ → ReadBook
+refusedAt f p = ReadBook.Refused (record { fault = f; place = p })
+
 abbrev pub refuse : State → Fault → Turn
-refuse st f = stop (resultOf st (ReadBook.Refused f (st .counts .lines + 1)))
+refuse st f = stop (resultOf st (refusedAt f (st .counts .lines + 1)))
 
 -- The counts after one more line, with the key k: there are now n items and m rules.
 abbrev pub counted : Counts → Key → ℕ → ℕ → Counts
@@ -70,7 +72,7 @@ itemName l x = take (x .value .left) (drop (x .from) l)
 abbrev pub isAbsent : Found → Bool
 isAbsent (Found.At i) = false
 isAbsent Found.Absent = true
-isAbsent Found.BadTable = false
+isAbsent (Found.Refused r) = false
 
 abbrev pub withItem : State → List ℕ → Line → State
 withItem st l x = record {
@@ -85,7 +87,7 @@ itemStep st l x =
     (cond (isAbsent (findIn (st .names) (st .counts .items) (itemName l x))) (on (withItem st l x) (lineLen x)) (refuse st Fault.NameTwice))
     (refuse st Fault.TooMany)
 
--- A rule's kind by its key, its eight left places, and its thirteen words.
+-- A rule's kind by its key, and its eight left places.
 abbrev pub ruleKind : Key → ℕ
 ruleKind Key.Form = 0
 ruleKind Key.Item = 0
@@ -96,12 +98,6 @@ ruleKind Key.End = 0
 
 abbrev pub leftPlaces : List ℕ → List ℕ
 leftPlaces items = over (replicate mostLeft 0) 0 items
-
-abbrev pub wordsOf : Rule → List ℕ
-wordsOf x =
-    x .kind ∷ x .count
-    ∷ leftItem x 0 ∷ leftItem x 1 ∷ leftItem x 2 ∷ leftItem x 3 ∷ leftItem x 4 ∷ leftItem x 5 ∷ leftItem x 6 ∷ leftItem x 7
-    ∷ x .right ∷ x .class .level ∷ x .class .marks ∷ []
 
 -- The left names of the line, and its right name, looked up. A line without a right name has item 0 there.
 abbrev pub leftNumbers : State → List ℕ → Line → List ℕ
@@ -141,13 +137,17 @@ ruleStep st l x =
     (refuse st Fault.NoSuchItem))
     (refuse st Fault.TooMany)
 
+-- The head of the book that was read.
+abbrev pub headOf : Counts → Head
+headOf c = record { items = c .items; rules = c .rules }
+
 -- "end | COUNT | the number of lines before this one". "Text after the end line is END_COUNT at the line after it".
 unfoldable pub endStep : State → List ℕ → Line → Turn
 endStep st l x =
     cond (eqb (x .value .count) (st .counts .lines))
     (cond (eqb (length l) (lineLen x))
-    (stop (resultOf st (ReadBook.Book (st .counts .items) (st .counts .rules))))
-    (stop (resultOf st (ReadBook.Refused Fault.EndCount (st .counts .lines + 2)))))
+    (stop (resultOf st (ReadBook.Book (headOf (st .counts)))))
+    (stop (resultOf st (refusedAt Fault.EndCount (st .counts .lines + 2)))))
     (refuse st Fault.EndCount)
 
 abbrev pub formStep : State → Line → Turn

@@ -6,10 +6,9 @@ use Prim.Native.Nat.{ℕ, zero, suc, _+_, _-_}
 use lib.Dec.{ltb}
 use lib.ListN.{getD, take, drop}
 use Rattle.laws.specs.Every.{everyBelow}
-use Rattle.scans.specs.Bytes.{nameByte}
 use Rattle.items.specs.Lookup.{findIn}
 use Rattle.items.specs.declared.Found.{Found}
-use Rattle.scans.specs.Bytes.{runLen}
+use Rattle.scans.specs.Bytes.{nameByte, runLen}
 
 -- The first name, and what stands behind it and the byte that follows it.
 abbrev pub firstName : List ℕ → List ℕ
@@ -21,12 +20,12 @@ restNames l = drop (runLen nameByte l + 1) l
 abbrev pub isItem : Found → Bool
 isItem (Found.At i) = true
 isItem Found.Absent = false
-isItem Found.BadTable = false
+isItem (Found.Refused r) = false
 
 abbrev pub itemNumber : Found → ℕ
 itemNumber (Found.At i) = i
 itemNumber Found.Absent = 0
-itemNumber Found.BadTable = 0
+itemNumber (Found.Refused r) = 0
 
 -- Each of the first c names is one of the n items of the table t.
 unfoldable pub everyItem : List ℕ → ℕ → ℕ → List ℕ → Bool

@@ -1,11 +1,11 @@
 // One line of a rulebook, read into the tables.
 use super::ReadBook;
+use super::names::find_at;
 use super::names::look_up;
 use super::names::right_item;
 use super::names::rises;
-use super::words::put_rule;
+use super::refused;
 use items::Found;
-use items::MOST_ITEMS;
 use items::NAME_ROOM;
 use keys::Key;
 use keys::key_number;
@@ -15,17 +15,22 @@ use lines::ReadLine;
 use lines::read_line;
 use puts::put;
 use refusals::Fault;
-use rules::MOST_RULES;
+use refusals::MOST_ITEMS;
+use refusals::MOST_LEFT;
+use refusals::MOST_RULES;
+use rules::Head;
 use rules::Rule;
+use rules::put_rule;
 ghost use mathlib.Core.Path.{_≡_};
 ghost use Prim.Native.Nat.{_+_, _≤_};
 ghost use lib.ListN.{drop};
 ghost use Rattle.lines.specs.Lines.{lineAt, lineLen};
 ghost use Rattle.reader.specs.Lines.{counted, ruleKind, ruleStep, step};
-ghost use Rattle.reader.specs.Inner.{stateOf, turnOf, Ready, LineReady, ItemReady, RuleReady, refusedAt, ItemStepped, EndStepped};
+ghost use Rattle.refusals.specs.Sizes.{mostText};
+ghost use Rattle.reader.specs.Inner.{stateOf, turnOf, Ready, LineReady, ItemReady, RuleReady, stopsAt, ItemStepped, EndStepped};
 
 // How many lines have been read, which row of the key table is next, and how many items and rules there are.
-pub struct Counts {
+pub(crate) struct Counts {
     pub lines: usize,
     pub after: u64,
     pub items: usize,
@@ -33,7 +38,7 @@ pub struct Counts {
 }
 
 // What a line gives: the counts after it and its length, or the answer.
-pub enum Stepped {
+pub(crate) enum Stepped {
     On(Counts, usize),
     Stop(ReadBook),
 }
@@ -50,14 +55,14 @@ pub(crate) fn step(
     ensures { λ r. ⌜ turnOf r (now (names .exit)) (now (words .exit)) ≡ step (stateOf c (now (names .entry)) (now (words .entry))) (drop at (now (text .entry))) ⌝ }
 {
     if text.len() <= at {
-        return refused(c, Fault::EndCount);
+        return stopped(c, Fault::EndCount);
     }
     let ReadLine::Found(line) = read_line(text, at) else {
-        return refused(c, Fault::Syntax);
+        return stopped(c, Fault::Syntax);
     };
     let key = line.key;
     if !may_follow(c.after, key_number(key)) {
-        return refused(c, Fault::Order);
+        return stopped(c, Fault::Order);
     }
     match key {
         Key::Form => Stepped::On(next(c, key, c.items, c.rules), line_len(line)),
@@ -70,16 +75,16 @@ pub(crate) fn step(
 }
 
 // A refusal at the line that is read.
-fn refused(c: Counts, fault: Fault) -> Stepped
-    requires { ⌜ c .lines ≤ 32768 ⌝ }
-    ensures { λ r. ⌜ r ≡ refusedAt (c .lines + 1) fault ⌝ }
+fn stopped(c: Counts, fault: Fault) -> Stepped
+    requires { ⌜ c .lines ≤ mostText ⌝ }
+    ensures { λ r. ⌜ r ≡ stopsAt fault (c .lines + 1) ⌝ }
 {
-    Stepped::Stop(ReadBook::Refused(fault, c.lines + 1))
+    Stepped::Stop(refused(fault, c.lines + 1))
 }
 
 // The counts after one more line.
 fn next(c: Counts, key: Key, items: usize, rules: usize) -> Counts
-    requires { ⌜ c .lines ≤ 32768 ⌝ }
+    requires { ⌜ c .lines ≤ mostText ⌝ }
     ensures { λ r. ⌜ r ≡ counted c key items rules ⌝ }
 {
     Counts {
@@ -92,7 +97,7 @@ fn next(c: Counts, key: Key, items: usize, rules: usize) -> Counts
 
 // The length of a line, with its LF.
 fn line_len(line: Line) -> usize
-    requires { ⌜ lineLen line ≤ 32768 ⌝ }
+    requires { ⌜ lineLen line ≤ mostText ⌝ }
     ensures { λ r. ⌜ r ≡ lineLen line ⌝ }
 {
     line.from + line.value.len + 1
@@ -104,12 +109,12 @@ fn item_step(text: &[u8], at: usize, line: Line, c: Counts, names: &mut [u8]) ->
     ensures { λ r. ⌜ ItemStepped c (now (names .entry)) (drop at (now (text .entry))) line r (now (names .exit)) ⌝ }
 {
     if MOST_ITEMS <= c.items {
-        return refused(c, Fault::TooMany);
+        return stopped(c, Fault::TooMany);
     }
     let from = at + line.from;
     let end = from + line.value.left;
-    let Found::Absent = items::find(names, c.items, &text[from..end]) else {
-        return refused(c, Fault::NameTwice);
+    let Found::Absent = find_at(text, from, line.value.left, names, c.items) else {
+        return stopped(c, Fault::NameTwice);
     };
     put(&text[from..end], names, c.items * NAME_ROOM);
     Stepped::On(next(c, Key::Item, c.items + 1, c.rules), line_len(line))
@@ -132,22 +137,22 @@ fn rule_step(
     let value = line.value;
     let class = value.class;
     if MOST_RULES <= c.rules {
-        return refused(c, Fault::TooMany);
+        return stopped(c, Fault::TooMany);
     }
-    if 8 < value.names {
-        return refused(c, Fault::TooMany);
+    if MOST_LEFT < value.names {
+        return stopped(c, Fault::TooMany);
     }
     let from = at + line.from;
-    let mut left = [0u64; 8];
+    let mut left = [0u64; MOST_LEFT];
     if !look_up(text, from, value.names, names, c.items, &mut left) {
-        return refused(c, Fault::NoSuchItem);
+        return stopped(c, Fault::NoSuchItem);
     }
     let Found::At(right) = right_item(text, from + value.left + 1, value.right, names, c.items)
     else {
-        return refused(c, Fault::NoSuchItem);
+        return stopped(c, Fault::NoSuchItem);
     };
     if !rises(&left, value.names) {
-        return refused(c, Fault::LeftOrder);
+        return stopped(c, Fault::LeftOrder);
     }
     let rule = Rule {
         kind: kind_of(key),
@@ -180,10 +185,13 @@ fn end_step(text: &[u8], at: usize, line: Line, c: Counts) -> Stepped
     ensures { λ r. ⌜ EndStepped c (drop at (now (text .entry))) line r ⌝ }
 {
     if line.value.count != c.lines as u64 {
-        return refused(c, Fault::EndCount);
+        return stopped(c, Fault::EndCount);
     }
     if text.len() - at != line_len(line) {
-        return Stepped::Stop(ReadBook::Refused(Fault::EndCount, c.lines + 2));
+        return Stepped::Stop(refused(Fault::EndCount, c.lines + 2));
     }
-    Stepped::Stop(ReadBook::Book(c.items, c.rules))
+    Stepped::Stop(ReadBook::Book(Head {
+        items: c.items,
+        rules: c.rules,
+    }))
 }

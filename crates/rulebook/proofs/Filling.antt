@@ -18,7 +18,7 @@ use Rattle.items.proofs.Counted.{SameItems, find-counted}
 use Rattle.laws.specs.Over.{over}
 use Rattle.laws.proofs.Buffers.{over-before, zeros-at, SameFront}
 use Rattle.items.proofs.Counted.{front-items}
-use Rattle.rulebook.proofs.Entries.{Spare, added-length, added-has, added-spare}
+use Rattle.reader.proofs.Entries.{Spare, added-length, added-has, added-spare}
 
 -- The item table has its whole room, the first i items of t, and zeros behind them.
 pub record Holds (t : List ℕ) (i : ℕ) (names : List ℕ) : Type 0 where

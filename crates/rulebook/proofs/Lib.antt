@@ -1,13 +1,8 @@
--- Why reading and writing undo each other. Reading a line: what it says, and what it does. Reading and then writing: what is read passes the table
--- tests, and its text is the text that was read. Writing and then reading: a written line reads back, and so does the whole text. Last the
--- promises of the two routines, put together.
-pub mod KeyRows
+-- Why reading and writing undo each other. Reading and then writing: what is read passes the table tests (the crate `reader` has that), and its text is the
+-- text that was read. Writing and then reading: a written line reads back, and so does the whole text. Last the promises of the two routines, put together.
+pub mod KindKeys
 pub mod Pieces
-pub mod LineFacts
-pub mod LineCases
-pub mod Entries
-pub mod Numbers
-pub mod ReadRight
+pub mod LineBytes
 pub mod LineTexts
 pub mod ReadWrite
 pub mod LineByLine

@@ -28,10 +28,11 @@ use Rattle.lines.specs.declared.Line.{Line}
 use Rattle.reader.specs.Names.{firstName, isItem, itemNumber, everyItem, numbersOf}
 use Rattle.reader.specs.Lines.{State, itemName, ruleKind, ruleOf}
 use Rattle.writer.specs.Texts.{pieces, formLine, endLine, leftPiece, leftText, rightText, ruleKey, ruleLine}
-use Rattle.rulebook.proofs.LineFacts.{LeftNames, name-run, take-byte, line-text}
-use Rattle.rulebook.proofs.LineCases.{FormRead, ItemRead, RuleRead, EndRead}
+use Rattle.reader.proofs.LineFacts.{LeftNames}
+use Rattle.rulebook.proofs.LineBytes.{name-run, take-byte, line-text}
+use Rattle.reader.proofs.LineCases.{FormRead, ItemRead, RuleRead, EndRead}
 use Rattle.items.proofs.Entries.{found-bytes}
-use Rattle.rulebook.proofs.Numbers.{found-item, left-item, right-name}
+use Rattle.reader.proofs.Numbers.{found-item, left-item, right-name}
 use Rattle.rulebook.proofs.Pieces.{pieces-one, pieces-first}
 
 -- The item that bytes are looked up as has those bytes.

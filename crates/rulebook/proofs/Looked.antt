@@ -28,8 +28,8 @@ use Rattle.reader.specs.Lines.{leftPlaces, rightItemAt}
 use Rattle.reader.proofs.LookUps.{right-none, right-some}
 use Rattle.writer.specs.Texts.{pieces}
 use Rattle.rulebook.proofs.LinesRead.{plus-no-name, colon-no-name, name-before, signed}
-use Rattle.rulebook.proofs.LineFacts.{name-run}
-use Rattle.rulebook.proofs.Entries.{places-at}
+use Rattle.rulebook.proofs.LineBytes.{name-run}
+use Rattle.reader.proofs.Entries.{places-at}
 
 -- The first name of a text, and what stands behind it and the byte that follows it.
 module _ (x : List ℕ) (b : ℕ) (rest : List ℕ) (e : isName x ≡ true) (f : nameByte b ≡ false) where

@@ -18,12 +18,12 @@ use Rattle.reader.specs.declared.ReadBook.{ReadBook}
 use Rattle.reader.specs.Lines.{State, start, Result, itemName, withItem, ruleOf, withRule}
 use Rattle.reader.specs.Reading.{readText}
 use Rattle.writer.specs.Texts.{pieces, formLine, endLine, itemLine, ruleLine, bookText}
-use Rattle.rulebook.proofs.LineCases.{FormRead, ItemRead, RuleRead, EndRead, Cases, formNext, read-says}
-use Rattle.rulebook.proofs.Entries.{added-has, added-same}
+use Rattle.reader.proofs.LineCases.{FormRead, ItemRead, RuleRead, EndRead, Cases, formNext, read-says}
+use Rattle.reader.proofs.Entries.{added-has, added-same}
 use Rattle.items.proofs.Entries.{has-name-of, same-names}
 use Rattle.rulebook.proofs.Pieces.{pieces-zero, pieces-grown}
 use Rattle.rulebook.proofs.LineTexts.{form-text, item-text, rule-text, end-text}
-use Rattle.rulebook.proofs.ReadRight.{Right, no-rules, right-start, right-form, item-name, item-room, right-item, rule-here, rule-before, right-rule}
+use Rattle.reader.proofs.ReadRight.{Right, no-rules, right-start, right-form, item-name, item-room, right-item, rule-here, rule-before, right-rule}
 
 -- What would be written of the items and of the rules so far, and of the tables so far but for the end line.
 abbrev itemTexts : State → List ℕ

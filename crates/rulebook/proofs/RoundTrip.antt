@@ -26,86 +26,24 @@ use Rattle.accepts.specs.Tables.{Tables}
 use Rattle.rulebook.specs.RoundTrip.{Words, ReadBack, WrittenBack, RoomRefused}
 use Rattle.accepts.specs.Tables.{SameTables}
 use Rattle.laws.proofs.Buffers.{front-over, rest-over}
-use Rattle.rulebook.proofs.ReadRight.{read-right}
+use Rattle.reader.proofs.ReadRight.{read-right}
+use Rattle.reader.proofs.Books.{Accepted, accepted, accepted-answer, tables-read, read-passes}
 use Rattle.rulebook.proofs.ReadWrite.{read-write}
 use Rattle.rulebook.proofs.WriteRead.{write-read}
 use Rattle.rulebook.proofs.Counted.{tables-counted, text-counted}
 
--- The answer of reading is a book exactly where the text is not too long, it is that book, and the lent tables have room for it.
-record Accepted (l : List ℕ) (a b n m : ℕ) : Type 0 where
-  short : length l ≤ mostText
-  book : readText l .answer ≡ ReadBook.Book n m
-  items : n * nameRoom ≤ a
-  rules : m * ruleWords ≤ b
-
-abbrev AnswerSays : List ℕ → ℕ → ℕ → ReadBook → Type 0
-AnswerSays l a b (ReadBook.Book n m) = Accepted l a b n m
-AnswerSays l a b (ReadBook.Refused f p) = Unit
-
-answer-says : (l : List ℕ) (a b : ℕ) → AnswerSays l a b (readAnswer l a b)
-unfolding readAnswer
-answer-says l a b = long (ltb mostText (length l)) refl
-  where
-    room : length l ≤ mostText → (n m : ℕ) → readText l .answer ≡ ReadBook.Book n m → (c : Bool) → (leb (n * nameRoom) a && leb (m * ruleWords) b) ≡ c
-        → AnswerSays l a b (cond c (ReadBook.Book n m) (ReadBook.Refused Fault.NoRoom 0))
-    room h n m e true f = record {
-      short = h;
-      book = e;
-      items = leb-true (n * nameRoom) a (and-left (leb (n * nameRoom) a) (leb (m * ruleWords) b) f);
-      rules = leb-true (m * ruleWords) b (and-right (leb (n * nameRoom) a) (leb (m * ruleWords) b) f);
-    }
-    room h n m e false f = tt
-
-    fits : length l ≤ mostText → (x : ReadBook) → readText l .answer ≡ x → AnswerSays l a b (fitted a b x)
-    fits h (ReadBook.Book n m) e = room h n m e (leb (n * nameRoom) a && leb (m * ruleWords) b) refl
-    fits h (ReadBook.Refused f p) e = tt
-
-    long : (c : Bool) → ltb mostText (length l) ≡ c
-        → AnswerSays l a b (cond c (ReadBook.Refused Fault.TooLong 0) (fitted a b (readText l .answer)))
-    long true e = tt
-    long false e = fits (ltb-false mostText (length l) e) (readText l .answer) refl
-
-accepted-answer : (l : List ℕ) (a b n m : ℕ) → Accepted l a b n m → readAnswer l a b ≡ ReadBook.Book n m
-unfolding readAnswer
-accepted-answer l a b n m h =
-    rw (le-ltb mostText (length l) (h .short), h .book, le-leb (n * nameRoom) a (h .items), le-leb (m * ruleWords) b (h .rules))
-
--- A front of one buffer that was put over the front of another.
-front-put : {n : ℕ} (d x : List ℕ) → n ≤ length x → n ≤ length d → take n (over d 0 (take n x)) ≡ take n x
-front-put {n} d x h room = front-over d (take n x) n (length-take-le n x h) room
-
--- A text that was read as a book of n items and m rules.
-module _ {l items rules : List ℕ} {n m : ℕ} {items′ rules′ : List ℕ} (read : ReadSays l items rules (ReadBook.Book n m) items′ rules′) where
-  accepted : Accepted l (length items) (length rules) n m
-  accepted = subst (AnswerSays l (length items) (length rules)) (sym (read .answer)) (answer-says l (length items) (length rules))
-
-  read-tables : Tables (readText l .names) n (readText l .words) m
-  read-tables = read-right l n m (accepted .book)
-
-  -- The lent tables hold what was read, up to the counts.
-  read-same : SameTables n m (readText l .names) (readText l .words) items′ rules′
-  read-same = record {
-    items = sym (ap (take (n * nameRoom)) (read .items-after) ∙ front-put items (readText l .names) (read-tables .items .room) (accepted .items));
-    rules = sym (ap (take (m * ruleWords)) (read .rules-after) ∙ front-put rules (readText l .words) (read-tables .rules .room) (accepted .rules));
-  }
-
-  passes : Tables items′ n rules′ m
-  passes = tables-counted read-same read-tables
-
-  read-text : bookText items′ n rules′ m ≡ l
-  read-text = text-counted read-same read-tables ∙ read-write l n m (accepted .book)
-
--- What is read passes the table tests.
-pub read-passes : {l items rules : List ℕ} {n m : ℕ} {items′ rules′ : List ℕ} → ReadSays l items rules (ReadBook.Book n m) items′ rules′
-    → Tables items′ n rules′ m
-read-passes read = passes read
+-- What would be written of a book that was read is the text.
+read-text : {l items rules : List ℕ} {n m : ℕ} {items′ rules′ : List ℕ} → ReadSays l items rules (ReadBook.Book n m) items′ rules′
+    → bookText items′ n rules′ m ≡ l
+read-text {l} {n = n} {m = m} read =
+    text-counted (tables-read read refl) (read-right l (accepted read refl .book)) ∙ read-write l n m (accepted read refl .book)
 
 -- An accepted rulebook, read and written, gives its own bytes where there is room.
 pub read-then-write : {l items rules : List ℕ} {n m : ℕ} {items′ rules′ out : List ℕ} {r : Written} {out′ : List ℕ}
     → ReadSays l items rules (ReadBook.Book n m) items′ rules′ → WriteSays items′ n rules′ m out r out′ → length l ≤ length out
     → WrittenBack l out r out′
-read-then-write read (bad-table bad) room = absurd (bad (passes read))
-read-then-write read (too-long ok h) room = absurd (omega (arith, ap length (read-text read), accepted read .short))
+read-then-write read (bad-table bad) room = absurd (bad (read-passes read))
+read-then-write read (too-long ok h) room = absurd (omega (arith, ap length (read-text read), accepted read refl .short))
 read-then-write read (no-room ok h k) room = absurd (omega (arith, ap length (read-text read)))
 read-then-write {l = l} {out = out} read (written ok h k) room = record {
   answer = ap Written.Text (ap length (read-text read));
@@ -117,8 +55,8 @@ read-then-write {l = l} {out = out} read (written ok h k) room = record {
 pub no-room-only : {l items rules : List ℕ} {n m : ℕ} {items′ rules′ out : List ℕ} {r : Written} {out′ : List ℕ}
     → ReadSays l items rules (ReadBook.Book n m) items′ rules′ → WriteSays items′ n rules′ m out r out′ → length out < length l
     → RoomRefused out r out′
-no-room-only read (bad-table bad) none = absurd (bad (passes read))
-no-room-only read (too-long ok h) none = absurd (omega (arith, ap length (read-text read), accepted read .short))
+no-room-only read (bad-table bad) none = absurd (bad (read-passes read))
+no-room-only read (too-long ok h) none = absurd (omega (arith, ap length (read-text read), accepted read refl .short))
 no-room-only read (no-room ok h k) none = record { answer = refl; buffer = refl }
 no-room-only read (written ok h k) none = absurd (omega (arith, ap length (read-text read)))
 
@@ -161,7 +99,7 @@ module _ {t : List ℕ} {n : ℕ} {w : List ℕ} {m k : ℕ} {out′ : List ℕ}
 
     tables-back : ReadBack t n w m r items′ rules′
     tables-back =
-        let same = read-same (rw book at read) in
+        let same = tables-read read book in
         record {
           answer = book;
           tables = record {

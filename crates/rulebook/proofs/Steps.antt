@@ -31,10 +31,11 @@ use Rattle.lines.specs.Lines.{lineLen}
 use Rattle.lines.specs.declared.Line.{Line}
 use Rattle.reader.specs.declared.ReadBook.{ReadBook}
 use Rattle.reader.specs.Names.{everyItem}
-use Rattle.reader.specs.Lines.{State, resultOf, on, stop, itemName, withItem, itemStep, wordsOf, leftNumbers, rightFound, ruleOf, withRule, allFound, ruleStep, endStep}
+use Rattle.reader.specs.Lines.{State, resultOf, on, stop, itemName, withItem, itemStep, leftNumbers, rightFound, ruleOf, withRule, allFound, ruleStep, endStep}
+use Rattle.rules.specs.Table.{wordsOf}
 use Rattle.writer.specs.Texts.{pieces, itemLine, leftText, rightText, ruleKey, ruleLine}
 use Rattle.laws.proofs.Buffers.{SameFront, same-more}
-use Rattle.rulebook.proofs.KeyRows.{kind-key}
+use Rattle.rulebook.proofs.KindKeys.{kind-key}
 use Rattle.rulebook.proofs.LineByLine.{LineRead}
 use Rattle.rulebook.proofs.LinesRead.{lineWith, unnamedValue, namedValue, LeftRead, signed, left-reads, valueOfKind, kind-reads}
 use Rattle.rulebook.proofs.Filling.{Holds, holds-more, next-absent, name-found}

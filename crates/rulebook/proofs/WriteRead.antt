@@ -18,8 +18,9 @@ use Rattle.writer.specs.Texts.{pieces, formLine, itemLine, ruleLine, endLine, b
 use Rattle.accepts.specs.Tables.{Tables}
 use Rattle.rulebook.specs.RoundTrip.{Words, ReadBack}
 use Rattle.laws.proofs.Buffers.{same-take}
-use Rattle.rulebook.proofs.KeyRows.{form-next, NextRow, row-next, KindKey, kind-key, kind-step, kind-next}
-use Rattle.rulebook.proofs.LineCases.{formNext}
+use Rattle.reader.proofs.KeyRows.{form-next, NextRow, row-next}
+use Rattle.rulebook.proofs.KindKeys.{KindKey, kind-key, kind-step, kind-next}
+use Rattle.reader.proofs.LineCases.{formNext}
 use Rattle.rulebook.proofs.LineByLine.{Reads, reads-line, reads-end}
 use Rattle.rulebook.proofs.LinesRead.{form-line, item-line, end-line}
 use Rattle.rulebook.proofs.Filling.{holds-none}

@@ -1,4 +1,6 @@
--- Why it is true: what readers find past the end of a table, joins of left labels, and the rule that a record of each kind stands for.
+-- Why it is true: what readers find past the end of a table, joins of left labels, the rule that a record of each kind stands for, and what a table holds after
+-- a put.
 pub mod Laws
 pub mod Meaning
 pub mod Words
+pub mod Put

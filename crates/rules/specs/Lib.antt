@@ -1,3 +1,3 @@
--- What the contracts of `rules` cite: a rule as a record, the flat table of rules, and labels held in two lists.
+-- What the contracts of `rules` cite: a rule as a record, and the flat table of rules, read and written.
 pub mod Record
 pub mod Table

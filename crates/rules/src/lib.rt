@@ -1,6 +1,6 @@
 // The rule: as a record by value, and in a flat lent table of words; and the head of a book.
 //
-// Nothing here refuses. A reader past the table's end finds zero.
+// Nothing here refuses. A reader past the table's end finds zero, and what has no room is not put.
 use classes::Class;
 use labels::label_at;
 use refusals::MOST_LEFT;
@@ -10,8 +10,7 @@ ghost use Rattle.labels.specs.Labels.{labelsIn};
 ghost use Rattle.meaning.specs.Rules.{joinOver};
 ghost use Rattle.meaning.specs.Classes.{classes};
 ghost use Rattle.rules.specs.Record.{leftOf};
-ghost use Rattle.labels.specs.Labels.{labelsIn};
-ghost use Rattle.rules.specs.Table.{wordAt, ruleAt};
+ghost use Rattle.rules.specs.Table.{wordAt, ruleAt, WordsPut, RulePut};
 
 // The kinds of a rule.
 pub const CAP: u64 = 0;
@@ -96,4 +95,48 @@ pub fn left_join(rule: Rule, levels: &[u64], marks: &[u64]) -> Class
         k += 1;
     }
     join
+}
+
+// Puts these words at a place of a table. No where the table has no room for all of them, and then nothing is written.
+pub fn put_words(words: &[u64], table: &mut [u64], at: usize) -> bool
+    ensures { λ r. ⌜ WordsPut (now (words .entry)) at (now (table .entry)) r (now (table .exit)) ⌝ }
+{
+    if table.len() < at {
+        return false;
+    }
+    if table.len() - at < words.len() {
+        return false;
+    }
+    let mut i = 0;
+    while i < words.len() {
+        table[at + i] = words[i];
+        i += 1;
+    }
+    true
+}
+
+// Puts a rule as rule r of a table. No where the table has no room for it, and then nothing is written.
+pub fn put_rule(rule: Rule, rules: &mut [u64], r: usize) -> bool
+    ensures { λ x. ⌜ RulePut rule r (now (rules .entry)) x (now (rules .exit)) ⌝ }
+{
+    if rules.len() <= r {
+        return false;
+    }
+    let left = rule.left;
+    let words = [
+        rule.kind,
+        rule.count,
+        left[0],
+        left[1],
+        left[2],
+        left[3],
+        left[4],
+        left[5],
+        left[6],
+        left[7],
+        rule.right,
+        rule.class.level,
+        rule.class.marks,
+    ];
+    put_words(&words, rules, r * WORDS)
 }

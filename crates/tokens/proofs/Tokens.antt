@@ -4,7 +4,7 @@
 use mathlib.Core.Path.{_≡_, refl, sym, ap, _∙_, subst}
 use mathlib.Core.Bool.{Bool, true, false, cond, _&&_}
 use mathlib.Core.List.{List, _∷_, _++_, append-assoc}
-use Prim.Native.Nat.{ℕ, _+_, _-_, _≤_, _<_}
+use Prim.Native.Nat.{ℕ, _+_, _-_, _^_, _≤_, _<_}
 use native.Mathlib.Nat.{add-zero, le-refl}
 use native.Mathlib.Decide.{decLt}
 use native.Mathlib.Numerals.{add-one}
@@ -13,16 +13,18 @@ use lib.Dec.{ltb, eqb}
 use lib.ListN.{length, take, drop, replicate, List·getD-append, length-append, length-drop}
 use lib.Seq.{length-take-le, getD-take, take-at, drop-at, take-add, drop-cons, drop-drop, getD-drop}
 use borrow.Author.Tests.{lt-ltb, le-ltb, eq-eqb, ne-eqb, ltb-false, eqb-true}
-use Rattle.classes.specs.Class.{classOf, IsClass, lowest, highest}
-use Rattle.classes.specs.declared.Class.{Class}
 use Rattle.laws.proofs.Bools.{true-not-false}
+use Rattle.classes.specs.Class.{topLevel, classOf, IsClass, lowest, highest}
+use Rattle.classes.specs.declared.Class.{Class}
 use Rattle.items.specs.Names.{nameRoom, isName}
-use Rattle.scans.specs.Bytes.{nameByte}
 use Rattle.items.proofs.Names.{spelled-name, name-spelled}
-use Rattle.scans.specs.Bytes.{byteAt, decimalByte, hexByte, runLen}
+use Rattle.scans.specs.Ascii.{slash, digit0, lowerF}
+use Rattle.scans.specs.Bytes.{byteAt, nameByte, decimalByte, hexByte, runLen}
 use Rattle.scans.proofs.Runs.{run-no, run-le, run-at, run-all, run-append, run-take}
-use Rattle.tokens.specs.Numbers.{digit, valueOf, digitsOf, decimalLen, decimalOf}
-use Rattle.tokens.specs.Tokens.{nameOfRun, nameAt, leadingZero, decimalOfRun, decimalAt, countAt, countText, classAfter, classAt, classText}
+use Rattle.tokens.specs.Numbers.{digit, valueOf, digitsOf, countDigits, decimalLen, decimalOf}
+use Rattle.tokens.specs.Tokens.{nameOfRun, nameAt, leadingZero, countFound, decimalOfRun, decimalAt, countAt, countText, levelDigits, markDigits, behindLevel, classFound, classAfter, classAt, classText}
+use Rattle.tokens.specs.declared.Number.{Number}
+use Rattle.tokens.specs.declared.ClassToken.{ClassToken}
 use Rattle.tokens.specs.declared.ReadName.{ReadName}
 use Rattle.tokens.specs.declared.ReadCount.{ReadCount}
 use Rattle.tokens.specs.declared.ReadClass.{ReadClass}
@@ -73,22 +75,22 @@ name-reads x rest e z =
     let n : runLen nameByte (x ++ rest) ≡ length x = omega (arith, run-append nameByte x rest (run-all nameByte x (s .bytes))) in
     rw (n, le-ltb (length x) 1 (s .least), le-ltb nameRoom (length x) (s .most))
 
--- Numbers in decimal. What a number v of n digits says.
-pub record DecimalHere (most : ℕ) (l : List ℕ) (v n : ℕ) : Type 0 where
-  pub within : n ≤ length l
-  pub short : n ≤ most
-  pub digits : DecimalLen v n
-  pub text : take n l ≡ decimalOf v
+-- Numbers in decimal. What a number says: its digits are those that would be written.
+pub record DecimalHere (most : ℕ) (l : List ℕ) (x : Number) : Type 0 where
+  pub within : x .len ≤ length l
+  pub short : x .len ≤ most
+  pub digits : DecimalLen (x .value) (x .len)
+  pub text : take (x .len) l ≡ decimalOf (x .value)
 
 abbrev pub DecimalSays : ℕ → List ℕ → ReadCount → Type 0
-DecimalSays most l (ReadCount.Found v n) = DecimalHere most l v n
+DecimalSays most l (ReadCount.Found x) = DecimalHere most l x
 DecimalSays most l ReadCount.Bad = Unit
 
-leading-zero : (l : List ℕ) (n : ℕ) → leadingZero l n ≡ false → 1 < n → byteAt l ≡ 48 → ⊥
+leading-zero : (l : List ℕ) (n : ℕ) → leadingZero l n ≡ false → 1 < n → byteAt l ≡ digit0 → ⊥
 unfolding leadingZero
-leading-zero l n e h z = true-not-false (rw (lt-ltb 1 n h, eq-eqb (byteAt l) 48 z)) e
+leading-zero l n e h z = true-not-false (rw (lt-ltb 1 n h, eq-eqb (byteAt l) digit0 z)) e
 
-pub decimal-says : (most : ℕ) (l : List ℕ) → most ≤ 5 → DecimalSays most l (decimalAt most l)
+pub decimal-says : (most : ℕ) (l : List ℕ) → most ≤ countDigits → DecimalSays most l (decimalAt most l)
 unfolding decimalOfRun
 decimal-says most l m = says (ltb n 1) refl (ltb most n) refl (leadingZero l n) refl
   where
@@ -105,7 +107,7 @@ decimal-says most l m = says (ltb n 1) refl (ltb most n) refl (leadingZero l n) 
     all = run-take decimalByte l n (le-refl n) ∙ sym long
 
     says : (a : Bool) → ltb n 1 ≡ a → (b : Bool) → ltb most n ≡ b → (c : Bool) → leadingZero l n ≡ c
-        → DecimalSays most l (cond a ReadCount.Bad (cond b ReadCount.Bad (cond c ReadCount.Bad (ReadCount.Found (valueOf 10 x) n))))
+        → DecimalSays most l (cond a ReadCount.Bad (cond b ReadCount.Bad (cond c ReadCount.Bad (countFound (valueOf 10 x) n))))
     says true d b e c f = tt
     says false d true e c f = tt
     says false d false e true f = tt
@@ -128,12 +130,12 @@ decimal-says most l m = says (ltb n 1) refl (ltb most n) refl (leadingZero l n) 
         }
 
 -- What is read is what would be written.
-pub decimal-is-text : (most : ℕ) (l : List ℕ) (v n : ℕ) → most ≤ 5 → decimalAt most l ≡ ReadCount.Found v n → DecimalHere most l v n
-decimal-is-text most l v n m e = subst (DecimalSays most l) e (decimal-says most l m)
+pub decimal-is-text : (most : ℕ) (l : List ℕ) (x : Number) → most ≤ countDigits → decimalAt most l ≡ ReadCount.Found x → DecimalHere most l x
+decimal-is-text most l x m e = subst (DecimalSays most l) e (decimal-says most l m)
 
 -- What is written reads back where what follows it begins with no digit.
-pub decimal-reads : (most v : ℕ) (rest : List ℕ) → v < 100000 → decimalLen v ≤ most → runLen decimalByte rest ≡ 0
-    → decimalAt most (decimalOf v ++ rest) ≡ ReadCount.Found v (decimalLen v)
+pub decimal-reads : (most v : ℕ) (rest : List ℕ) → v < 10 ^ countDigits → decimalLen v ≤ most → runLen decimalByte rest ≡ 0
+    → decimalAt most (decimalOf v ++ rest) ≡ countFound v (decimalLen v)
 unfolding decimalOfRun leadingZero
 decimal-reads most v rest h m z =
     rw (run, le-ltb k 1 (d .least), le-ltb most k m, zeroless (decLt 1 k), take-at x rest k long, value-digits decimal k v (d .below))
@@ -156,99 +158,104 @@ decimal-reads most v rest h m z =
     run : runLen decimalByte (x ++ rest) ≡ k
     run = omega (arith, long, run-append decimalByte x rest all)
 
-    zeroless : Dec (1 < k) → (ltb 1 k && eqb (byteAt (x ++ rest)) 48) ≡ false
+    zeroless : Dec (1 < k) → (ltb 1 k && eqb (byteAt (x ++ rest)) digit0) ≡ false
     zeroless (no n) = rw (le-ltb 1 k (omega arith))
     zeroless (yes g) =
         rw (
           lt-ltb 1 k g,
           List·getD-append x rest 0 0 (omega (arith, long)),
-          ne-eqb (byteAt x) 48
+          ne-eqb (byteAt x) digit0
               (first-high decimal x all (rw long g) (rw (long, value-digits decimal k v (d .below)) (d .above g))),
         )
 
 -- Counts.
-pub count-is-text : (l : List ℕ) (v n : ℕ) → countAt l ≡ ReadCount.Found v n → DecimalHere 5 l v n
-count-is-text l v n e = decimal-is-text 5 l v n (omega arith) e
+pub count-is-text : (l : List ℕ) (x : Number) → countAt l ≡ ReadCount.Found x → DecimalHere countDigits l x
+count-is-text l x e = decimal-is-text countDigits l x (omega arith) e
 
-pub count-reads : (v : ℕ) (rest : List ℕ) → v < 100000 → runLen decimalByte rest ≡ 0
-    → countAt (countText v ++ rest) ≡ ReadCount.Found v (length (countText v))
+pub count-reads : (v : ℕ) (rest : List ℕ) → v < 10 ^ countDigits → runLen decimalByte rest ≡ 0
+    → countAt (countText v ++ rest) ≡ countFound v (length (countText v))
 count-reads v rest h z =
-    decimal-reads 5 v rest h (decimal-has v h .most) z ∙ ap (ReadCount.Found v) (sym (digits-length 10 (decimalLen v) v))
+    decimal-reads countDigits v rest h (decimal-has v h .most) z ∙ ap (countFound v) (sym (digits-length 10 (decimalLen v) v))
 
--- Classes. What a class of n bytes says.
-pub record ClassHere (l : List ℕ) (c : Class) (n : ℕ) : Type 0 where
-  pub within : n ≤ length l
-  pub class : IsClass c
-  pub text : take n l ≡ classText c
+-- Classes. What a class says: its bytes are those that would be written.
+pub record ClassHere (l : List ℕ) (x : ClassToken) : Type 0 where
+  pub within : x .len ≤ length l
+  pub class : IsClass (x .class)
+  pub text : take (x .len) l ≡ classText (x .class)
 
 abbrev pub ClassSays : List ℕ → ReadClass → Type 0
-ClassSays l (ReadClass.Found c n) = ClassHere l c n
+ClassSays l (ReadClass.Found x) = ClassHere l x
 ClassSays l ReadClass.Bad = Unit
 
 pub class-says : (l : List ℕ) → ClassSays l (classAt l)
 unfolding classAfter
-class-says l = after (decimalAt 2 l) (decimal-says 2 l (omega arith))
+class-says l = after (decimalAt levelDigits l) (decimal-says levelDigits l (omega arith))
   where
-    after : (r : ReadCount) → DecimalSays 2 l r → ClassSays l (classAfter l r)
+    after : (r : ReadCount) → DecimalSays levelDigits l r → ClassSays l (classAfter l r)
     after ReadCount.Bad d = tt
-    after (ReadCount.Found v n) d = says (ltb 15 v) refl (eqb (byteAt (drop n l)) 47) refl (eqb (runLen hexByte rest) 16) refl
+    after (ReadCount.Found x) d =
+        says (ltb topLevel (x .value)) refl (eqb (byteAt (drop (x .len) l)) slash) refl (eqb (runLen hexByte rest) markDigits) refl
       where
         rest : List ℕ
-        rest = drop (n + 1) l
+        rest = drop (x .len + 1) l
 
-        says : (a : Bool) → ltb 15 v ≡ a → (b : Bool) → eqb (byteAt (drop n l)) 47 ≡ b → (c : Bool) → eqb (runLen hexByte rest) 16 ≡ c
+        marks : List ℕ
+        marks = take markDigits rest
+
+        says : (a : Bool) → ltb topLevel (x .value) ≡ a → (b : Bool) → eqb (byteAt (drop (x .len) l)) slash ≡ b
+            → (c : Bool) → eqb (runLen hexByte rest) markDigits ≡ c
             → ClassSays l
             (cond a ReadClass.Bad
-            (cond b (cond c (ReadClass.Found (classOf v (valueOf 16 (take 16 rest))) (n + 17)) ReadClass.Bad) ReadClass.Bad))
+            (cond b (cond c (classFound (classOf (x .value) (valueOf 16 marks)) (x .len + behindLevel)) ReadClass.Bad) ReadClass.Bad))
         says true e b f c g = tt
         says false e false f c g = tt
         says false e true f false g = tt
         says false e true f true g = record {
           within = omega (arith, room);
-          class = record { level = ltb-false 15 v e; marks = rw long at (value-fits hex (take 16 rest) all) };
-          text = take-add n 17 l ∙ rw (d .text, slash, digits);
+          class = record { level = ltb-false topLevel (x .value) e; marks = rw long at (value-fits hex marks all) };
+          text = take-add (x .len) behindLevel l ∙ rw (d .text, behind, digits);
         }
           where
-            run : runLen hexByte rest ≡ 16
-            run = eqb-true (runLen hexByte rest) 16 g
+            run : runLen hexByte rest ≡ markDigits
+            run = eqb-true (runLen hexByte rest) markDigits g
 
-            room : 16 ≤ length l - (n + 1)
-            room = omega (arith, run, run-le hexByte rest, length-drop (n + 1) l)
+            room : markDigits ≤ length l - (x .len + 1)
+            room = omega (arith, run, run-le hexByte rest, length-drop (x .len + 1) l)
 
-            long : length (take 16 rest) ≡ 16
-            long = length-take-le 16 rest (omega (arith, run, run-le hexByte rest))
+            long : length marks ≡ markDigits
+            long = length-take-le markDigits rest (omega (arith, run, run-le hexByte rest))
 
-            all : runLen hexByte (take 16 rest) ≡ length (take 16 rest)
-            all = run-take hexByte rest 16 (omega (arith, run)) ∙ sym long
+            all : runLen hexByte marks ≡ length marks
+            all = run-take hexByte rest markDigits (omega (arith, run)) ∙ sym long
 
-            slash : drop n l ≡ 47 ∷ rest
-            slash =
-                drop-cons l n 0 (omega (arith, room))
-                ∙ rw (← add-one n, ← add-zero n, ← getD-drop n l 0 0, eqb-true (byteAt (drop n l)) 47 f)
+            behind : drop (x .len) l ≡ slash ∷ rest
+            behind =
+                drop-cons l (x .len) 0 (omega (arith, room))
+                ∙ rw (← add-one (x .len), ← add-zero (x .len), ← getD-drop (x .len) l 0 0, eqb-true (byteAt (drop (x .len) l)) slash f)
 
-            digits : digitsOf 16 16 (valueOf 16 (take 16 rest)) ≡ take 16 rest
-            digits = rw long at (digits-value hex (take 16 rest) all)
+            digits : digitsOf 16 markDigits (valueOf 16 marks) ≡ marks
+            digits = rw long at (digits-value hex marks all)
 
 -- What is read is what would be written.
-pub class-is-text : (l : List ℕ) (c : Class) (n : ℕ) → classAt l ≡ ReadClass.Found c n → ClassHere l c n
-class-is-text l c n e = subst (ClassSays l) e (class-says l)
+pub class-is-text : (l : List ℕ) (x : ClassToken) → classAt l ≡ ReadClass.Found x → ClassHere l x
+class-is-text l x e = subst (ClassSays l) e (class-says l)
 
-pub class-length : (c : Class) → length (classText c) ≡ decimalLen (c .level) + 17
+pub class-length : (c : Class) → length (classText c) ≡ decimalLen (c .level) + behindLevel
 class-length c =
-    rw length-append (omega (arith, digits-length 10 (decimalLen (c .level)) (c .level), digits-length 16 16 (c .marks)))
+    rw length-append (omega (arith, digits-length 10 (decimalLen (c .level)) (c .level), digits-length 16 markDigits (c .marks)))
 
-slash-no-digit : decimalByte 47 ≡ false
+slash-no-digit : decimalByte slash ≡ false
 unfolding decimalByte
 slash-no-digit = refl
 
 -- What is written reads back where what follows it begins with no hex digit.
 pub class-reads : (c : Class) (rest : List ℕ) → IsClass c → runLen hexByte rest ≡ 0
-    → classAt (classText c ++ rest) ≡ ReadClass.Found c (length (classText c))
+    → classAt (classText c ++ rest) ≡ classFound c (length (classText c))
 unfolding classAfter
 class-reads c rest h z =
-    rw (append-assoc x (47 ∷ hexes) rest, level, le-ltb 15 (c .level) (h .level), drop-at x after k long, ← drop-drop 1 k (x ++ after))
-    (rw (drop-at x after k long, run, take-at hexes rest 16 (digits-length 16 16 (c .marks)), value-digits hex 16 (c .marks) (h .marks))
-    (ap (ReadClass.Found c) (sym (class-length c))))
+    rw (append-assoc x (slash ∷ hexes) rest, level, le-ltb topLevel (c .level) (h .level), drop-at x after k long, ← drop-drop 1 k (x ++ after))
+    (rw (drop-at x after k long, run, take-at hexes rest markDigits wide, value-digits hex markDigits (c .marks) (h .marks))
+    (ap (classFound c) (sym (class-length c))))
   where
     k : ℕ
     k = decimalLen (c .level)
@@ -257,32 +264,30 @@ class-reads c rest h z =
     x = decimalOf (c .level)
 
     hexes : List ℕ
-    hexes = digitsOf 16 16 (c .marks)
+    hexes = digitsOf 16 markDigits (c .marks)
+
+    wide : length hexes ≡ markDigits
+    wide = digits-length 16 markDigits (c .marks)
 
     after : List ℕ
-    after = 47 ∷ (hexes ++ rest)
+    after = slash ∷ (hexes ++ rest)
 
     long : length x ≡ k
     long = digits-length 10 k (c .level)
 
-    level : decimalAt 2 (x ++ after) ≡ ReadCount.Found (c .level) k
+    level : decimalAt levelDigits (x ++ after) ≡ countFound (c .level) k
     level =
-        decimal-reads 2 (c .level) after (omega (arith, h .level)) (decimal-short (c .level) (omega (arith, h .level)))
-        (run-no decimalByte 47 (hexes ++ rest) slash-no-digit)
+        decimal-reads levelDigits (c .level) after (omega (arith, h .level)) (decimal-short (c .level) (omega (arith, h .level)))
+        (run-no decimalByte slash (hexes ++ rest) slash-no-digit)
 
-    run : runLen hexByte (hexes ++ rest) ≡ 16
-    run =
-        omega (
-          arith,
-          run-append hexByte hexes rest (digits-run hex 16 (c .marks) ∙ sym (digits-length 16 16 (c .marks))),
-          digits-length 16 16 (c .marks),
-        )
+    run : runLen hexByte (hexes ++ rest) ≡ markDigits
+    run = omega (arith, wide, run-append hexByte hexes rest (digits-run hex markDigits (c .marks) ∙ sym wide))
 
 -- "The lowest class is 0/0000000000000000 and the highest 15/ffffffffffffffff."
-pub lowest-text : classText lowest ≡ 48 ∷ 47 ∷ replicate 16 48
+pub lowest-text : classText lowest ≡ digit0 ∷ slash ∷ replicate markDigits digit0
 unfolding decimalLen digitsOf digit
 lowest-text = refl
 
-pub highest-text : classText highest ≡ 49 ∷ 53 ∷ 47 ∷ replicate 16 102
+pub highest-text : classText highest ≡ digit 1 ∷ digit 5 ∷ slash ∷ replicate markDigits lowerF
 unfolding decimalLen digitsOf digit
 highest-text = refl

@@ -13,7 +13,9 @@ use lib.Seq.{getD-drop}
 use mir.Syntax.{w64}
 use mir.Val.{Fits}
 use Rattle.scans.proofs.Places.{drop-next}
-use Rattle.tokens.specs.Numbers.{digitValue, valueAfter, valueOf, Digits}
+use Rattle.tokens.specs.Numbers.{digitValue, valueAfter, valueOf}
+use Rattle.tokens.specs.Tokens.{markDigits}
+use Rattle.tokens.specs.InnerDigits.{Digits}
 
 -- The value of len digits at a place, digit by digit: after i digits worth v, what is left to do is the rest of them.
 pub record Valued (base : ℕ) (s : List ℕ) (at len v i : ℕ) : Type 0 where
@@ -47,7 +49,7 @@ module _ {base : ℕ} {s : List ℕ} {at len : ℕ} where
       valued-add = record {
         fits =
             lt-of-lt-of-le next-fits
-            (le-trans (pow-le-pow-left (d .base-most) (i + 1)) (pow-le-pow-right (omega arith) {i = i + 1} {j = 16} (omega (arith, d .most))));
+            (le-trans (pow-le-pow-left (d .base-most) (i + 1)) (pow-le-pow-right (omega arith) {i = i + 1} {j = markDigits} (omega (arith, d .most))));
       }
 
       pub valued-more : Valued base s at len (v * base + r) (i + 1)

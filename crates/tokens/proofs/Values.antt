@@ -14,9 +14,10 @@ use lib.Dec.{leb, ltb}
 use lib.ListN.{length, length-append}
 use borrow.Author.Tests.{le-leb, lt-leb, lt-ltb, le-ltb, leb-true}
 use Rattle.laws.proofs.Bools.{and-left, and-right}
+use Rattle.scans.specs.Ascii.{digit0, digit9, lowerA, lowerF}
 use Rattle.scans.specs.Bytes.{byteAt, decimalByte, hexByte, runLen}
 use Rattle.scans.proofs.Runs.{run-append, all-head, all-tail}
-use Rattle.tokens.specs.Numbers.{digitValue, digit, valueAfter, valueOf, digitsOf, decimalLen}
+use Rattle.tokens.specs.Numbers.{letter0, digitValue, digit, valueAfter, valueOf, digitsOf, countDigits, decimalLen}
 
 -- The bytes of a kind are the digits of a base: each has a value below the base and is the digit of that value, and each number below the base
 -- has a digit.
@@ -28,60 +29,60 @@ pub record Base (base : ℕ) (kind : ℕ → Bool) : Type 0 where
   pub forth : (d : ℕ) → d < base → digitValue (digit d) ≡ d
   pub spelled : (d : ℕ) → d < base → kind (digit d) ≡ true
 
-pub low-value : (b : ℕ) → b ≤ 57 → digitValue b ≡ b - 48
+pub low-value : (b : ℕ) → b ≤ digit9 → digitValue b ≡ b - digit0
 unfolding digitValue
-low-value b h = rw (le-leb b 57 h)
+low-value b h = rw (le-leb b digit9 h)
 
-pub high-value : (b : ℕ) → 57 < b → digitValue b ≡ b - 87
+pub high-value : (b : ℕ) → digit9 < b → digitValue b ≡ b - letter0
 unfolding digitValue
-high-value b h = rw (lt-leb b 57 h)
+high-value b h = rw (lt-leb b digit9 h)
 
-pub low-digit : (d : ℕ) → d < 10 → digit d ≡ 48 + d
+pub low-digit : (d : ℕ) → d < 10 → digit d ≡ digit0 + d
 unfolding digit
 low-digit d h = rw (lt-ltb d 10 h)
 
-pub high-digit : (d : ℕ) → 10 ≤ d → digit d ≡ 87 + d
+pub high-digit : (d : ℕ) → 10 ≤ d → digit d ≡ letter0 + d
 unfolding digit
 high-digit d h = rw (le-ltb d 10 h)
 
 record LowByte (b : ℕ) : Type 0 where
-  least : 48 ≤ b
-  most : b ≤ 57
+  least : digit0 ≤ b
+  most : b ≤ digit9
 
 record HighByte (b : ℕ) : Type 0 where
-  least : 97 ≤ b
-  most : b ≤ 102
+  least : lowerA ≤ b
+  most : b ≤ lowerF
 
 decimal-low : (b : ℕ) → decimalByte b ≡ true → LowByte b
 unfolding decimalByte
-decimal-low b e = record { least = leb-true 48 b (and-left _ _ e); most = leb-true b 57 (and-right (leb 48 b) _ e) }
+decimal-low b e = record { least = leb-true digit0 b (and-left _ _ e); most = leb-true b digit9 (and-right (leb digit0 b) _ e) }
 
 low-small : {b : ℕ} → LowByte b → digitValue b < 10
 low-small {b} h = rw (low-value b (h .most)) (omega arith)
 
 low-back : {b : ℕ} → LowByte b → digit (digitValue b) ≡ b
-low-back {b} h = rw (low-value b (h .most), low-digit (b - 48) (omega arith)) (omega arith)
+low-back {b} h = rw (low-value b (h .most), low-digit (b - digit0) (omega arith)) (omega arith)
 
 hex-cases : (b : ℕ) → hexByte b ≡ true → LowByte b ⊎ HighByte b
 unfolding hexByte
-hex-cases b e = cases (leb 48 b && leb b 57) refl e
+hex-cases b e = cases (leb digit0 b && leb b digit9) refl e
   where
-    cases : (t : Bool) → (leb 48 b && leb b 57) ≡ t → (t || leb 97 b && leb b 102) ≡ true → LowByte b ⊎ HighByte b
-    cases true d f = inl (record { least = leb-true 48 b (and-left _ _ d); most = leb-true b 57 (and-right (leb 48 b) _ d) })
-    cases false d f = inr (record { least = leb-true 97 b (and-left _ _ f); most = leb-true b 102 (and-right (leb 97 b) _ f) })
+    cases : (t : Bool) → (leb digit0 b && leb b digit9) ≡ t → (t || leb lowerA b && leb b lowerF) ≡ true → LowByte b ⊎ HighByte b
+    cases true d f = inl (record { least = leb-true digit0 b (and-left _ _ d); most = leb-true b digit9 (and-right (leb digit0 b) _ d) })
+    cases false d f = inr (record { least = leb-true lowerA b (and-left _ _ f); most = leb-true b lowerF (and-right (leb lowerA b) _ f) })
 
 high-small : {b : ℕ} → HighByte b → digitValue b < 16
 high-small {b} h = rw (high-value b (omega arith)) (omega arith)
 
 high-back : {b : ℕ} → HighByte b → digit (digitValue b) ≡ b
-high-back {b} h = rw (high-value b (omega arith), high-digit (b - 87) (omega arith)) (omega arith)
+high-back {b} h = rw (high-value b (omega arith), high-digit (b - letter0) (omega arith)) (omega arith)
 
 low-forth : (d : ℕ) → d < 10 → digitValue (digit d) ≡ d
-low-forth d h = rw (low-digit d h, low-value (48 + d) (omega arith)) (omega arith)
+low-forth d h = rw (low-digit d h, low-value (digit0 + d) (omega arith)) (omega arith)
 
 low-spelled : (d : ℕ) → d < 10 → decimalByte (digit d) ≡ true
 unfolding decimalByte
-low-spelled d h = rw (low-digit d h, le-leb 48 (48 + d) (omega arith), le-leb (48 + d) 57 (omega arith))
+low-spelled d h = rw (low-digit d h, le-leb digit0 (digit0 + d) (omega arith), le-leb (digit0 + d) digit9 (omega arith))
 
 pub decimal : Base 10 decimalByte
 decimal = record {
@@ -106,17 +107,17 @@ hex = record {
   where
     forth : (d : ℕ) → d < 16 → Dec (d < 10) → digitValue (digit d) ≡ d
     forth d h (yes l) = low-forth d l
-    forth d h (no l) = rw (high-digit d (omega arith), high-value (87 + d) (omega arith)) (omega arith)
+    forth d h (no l) = rw (high-digit d (omega arith), high-value (letter0 + d) (omega arith)) (omega arith)
 
-    spelled : (d : ℕ) → d < 16 → Dec (d < 10) → (leb 48 (digit d) && leb (digit d) 57 || leb 97 (digit d) && leb (digit d) 102) ≡ true
-    spelled d h (yes l) = rw (low-digit d l, le-leb 48 (48 + d) (omega arith), le-leb (48 + d) 57 (omega arith))
+    spelled : (d : ℕ) → d < 16 → Dec (d < 10) → (leb digit0 (digit d) && leb (digit d) digit9 || leb lowerA (digit d) && leb (digit d) lowerF) ≡ true
+    spelled d h (yes l) = rw (low-digit d l, le-leb digit0 (digit0 + d) (omega arith), le-leb (digit0 + d) digit9 (omega arith))
     spelled d h (no l) =
         rw (
           high-digit d (omega arith),
-          lt-leb (87 + d) 57 (omega arith),
-          le-leb 97 (87 + d) (omega arith),
-          le-leb (87 + d) 102 (omega arith),
-          le-leb 48 (87 + d) (omega arith),
+          lt-leb (letter0 + d) digit9 (omega arith),
+          le-leb lowerA (letter0 + d) (omega arith),
+          le-leb (letter0 + d) lowerF (omega arith),
+          le-leb digit0 (letter0 + d) (omega arith),
         )
 
 -- The value of digits one after the other.
@@ -190,7 +191,7 @@ value-above base (b ∷ l) v =
 
 -- Where the first digit is no 0, the value has as many digits; where it is 0, fewer would do.
 module _ {base : ℕ} {kind : ℕ → Bool} (digits : Base base kind) (b : ℕ) (l : List ℕ) (e : runLen kind (b ∷ l) ≡ suc (length l)) where
-  pub value-high : (b ≡ 48 → ⊥) → base ^ length l ≤ valueOf base (b ∷ l)
+  pub value-high : (b ≡ digit0 → ⊥) → base ^ length l ≤ valueOf base (b ∷ l)
   unfolding valueAfter
   value-high n =
       le-trans (rw one-mul at (mul-le-mul-right (base ^ length l) least)) (value-above base l (0 * base + digitValue b))
@@ -202,29 +203,29 @@ module _ {base : ℕ} {kind : ℕ → Bool} (digits : Base base kind) (b : ℕ) 
       least : 1 ≤ 0 * base + digitValue b
       least = omega (arith, worth (digitValue b) refl)
 
-  pub value-low : b ≡ 48 → valueOf base (b ∷ l) < base ^ length l
+  pub value-low : b ≡ digit0 → valueOf base (b ∷ l) < base ^ length l
   unfolding valueAfter
   value-low z =
-      let worth : digitValue b ≡ 0 = ap digitValue z ∙ low-value 48 (omega arith) in
+      let worth : digitValue b ≡ 0 = ap digitValue z ∙ low-value digit0 (omega arith) in
       rw (← zero-add (length l))
       (value-below digits l 0 (0 * base + digitValue b) (all-tail kind b l e) (omega (arith, pow-zero base)))
 
 -- The same of digits at the front of which there is one.
 module _ {base : ℕ} {kind : ℕ → Bool} (digits : Base base kind) where
-  pub high-first : (l : List ℕ) → runLen kind l ≡ length l → 1 < length l → (byteAt l ≡ 48 → ⊥) → base ^ (length l - 1) ≤ valueOf base l
+  pub high-first : (l : List ℕ) → runLen kind l ≡ length l → 1 < length l → (byteAt l ≡ digit0 → ⊥) → base ^ (length l - 1) ≤ valueOf base l
   high-first [] e h n = absurd (omega arith)
   high-first (b ∷ l) e h n = let d : suc (length l) - 1 ≡ length l = omega arith in rw d (value-high digits b l e n)
 
-  pub first-high : (l : List ℕ) → runLen kind l ≡ length l → 1 < length l → base ^ (length l - 1) ≤ valueOf base l → byteAt l ≡ 48 → ⊥
+  pub first-high : (l : List ℕ) → runLen kind l ≡ length l → 1 < length l → base ^ (length l - 1) ≤ valueOf base l → byteAt l ≡ digit0 → ⊥
   first-high [] e h g z = absurd (omega arith)
   first-high (b ∷ l) e h g z =
       let d : suc (length l) - 1 ≡ length l = omega arith in
       not-le-of-lt (value-low digits b l e z) (rw d at g)
 
--- How many decimal digits a number has: k, at most 5, where it is below 10^k and, for more than one digit, not below 10^(k - 1).
+-- How many decimal digits a number has: k, at most those of a count, where it is below 10^k and, for more than one digit, not below 10^(k - 1).
 pub record DecimalLen (n k : ℕ) : Type 0 where
   pub least : 1 ≤ k
-  pub most : k ≤ 5
+  pub most : k ≤ countDigits
   pub below : n < 10 ^ k
   pub above : 1 < k → 10 ^ (k - 1) ≤ n
 
@@ -242,7 +243,7 @@ decimal-len (suc (suc (suc (suc (suc zero))))) n h =
     rw (le-ltb n 10 (omega arith), le-ltb n 100 (omega arith), le-ltb n 1000 (omega arith), le-ltb n 10000 a)
 decimal-len (suc (suc (suc (suc (suc (suc k)))))) n h = absurd (omega (arith, h .most))
 
-pub decimal-has : (n : ℕ) → n < 100000 → DecimalLen n (decimalLen n)
+pub decimal-has : (n : ℕ) → n < 10 ^ countDigits → DecimalLen n (decimalLen n)
 decimal-has n h = cases (decLt n 10) (decLt n 100) (decLt n 1000) (decLt n 10000)
   where
     has : (k : ℕ) → DecimalLen n k → DecimalLen n (decimalLen n)
@@ -253,14 +254,14 @@ decimal-has n h = cases (decLt n 10) (decLt n 100) (decLt n 1000) (decLt n 10000
     cases (no a) (yes b) c d = has 2 (omega arith)
     cases (no a) (no b) (yes c) d = has 3 (omega arith)
     cases (no a) (no b) (no c) (yes d) = has 4 (omega arith)
-    cases (no a) (no b) (no c) (no d) = has 5 (omega arith)
+    cases (no a) (no b) (no c) (no d) = has countDigits (omega arith)
 
--- Any number has 1 to 5 of them: of one over 99,999 the last five are put.
-decimal-cases : (P : ℕ → Type 0) → P 1 → P 2 → P 3 → P 4 → P 5 → (n : ℕ) → P (decimalLen n)
+-- Any number has from 1 to those of a count: of a greater one so many, the last, are put.
+decimal-cases : (P : ℕ → Type 0) → P 1 → P 2 → P 3 → P 4 → P countDigits → (n : ℕ) → P (decimalLen n)
 unfolding decimalLen
 decimal-cases P p q r s t n = cases (ltb n 10) (ltb n 100) (ltb n 1000) (ltb n 10000)
   where
-    cases : (a b c d : Bool) → P (cond a 1 (cond b 2 (cond c 3 (cond d 4 5))))
+    cases : (a b c d : Bool) → P (cond a 1 (cond b 2 (cond c 3 (cond d 4 countDigits))))
     cases true b c d = p
     cases false true c d = q
     cases false false true d = r
@@ -270,8 +271,8 @@ decimal-cases P p q r s t n = cases (ltb n 10) (ltb n 100) (ltb n 1000) (ltb n 1
 pub decimal-least : (n : ℕ) → 1 ≤ decimalLen n
 decimal-least = decimal-cases (λ k. 1 ≤ k) (omega arith) (omega arith) (omega arith) (omega arith) (omega arith)
 
-pub decimal-most : (n : ℕ) → decimalLen n ≤ 5
-decimal-most = decimal-cases (λ k. k ≤ 5) (omega arith) (omega arith) (omega arith) (omega arith) (omega arith)
+pub decimal-most : (n : ℕ) → decimalLen n ≤ countDigits
+decimal-most = decimal-cases (λ k. k ≤ countDigits) (omega arith) (omega arith) (omega arith) (omega arith) (omega arith)
 
 pub decimal-short : (n : ℕ) → n < 100 → decimalLen n ≤ 2
 decimal-short n h = cases (decLt n 10)

@@ -2,17 +2,21 @@
 -- Assumes nothing.
 use mathlib.Core.Bool.{cond}
 use mathlib.Core.List.{List, [], _∷_, _++_}
-use Prim.Native.Nat.{ℕ, zero, suc, _+_, _-_, _*_, _/_, _%_, _≤_, _<_}
+use Prim.Native.Nat.{ℕ, zero, suc, _+_, _-_, _*_, _/_, _%_}
 use lib.Dec.{ltb, leb}
-use lib.ListN.{length, getD}
+use Rattle.scans.specs.Ascii.{digit0, digit9, lowerA}
 
--- What a digit is worth: 0-9 are 48 to 57, a-f are 97 to 102.
+-- What the byte of a letter a-f is more than its worth, as `digit0` is for a digit 0-9: a is worth 10.
+abbrev pub letter0 : ℕ
+letter0 = lowerA - 10
+
+-- What a digit is worth.
 unfoldable pub digitValue : ℕ → ℕ
-digitValue b = cond (leb b 57) (b - 48) (b - 87)
+digitValue b = cond (leb b digit9) (b - digit0) (b - letter0)
 
 -- The digit worth d, for d below 16, in lower case.
 unfoldable pub digit : ℕ → ℕ
-digit d = cond (ltb d 10) (48 + d) (87 + d)
+digit d = cond (ltb d 10) (digit0 + d) (letter0 + d)
 
 -- The value of digits that follow others worth v, and the value of digits.
 unfoldable pub valueAfter : ℕ → ℕ → List ℕ → ℕ
@@ -27,16 +31,13 @@ unfoldable pub digitsOf : ℕ → ℕ → ℕ → List ℕ
 digitsOf base zero n = []
 digitsOf base (suc k) n = digitsOf base k (n / base) ++ (digit (n % base) ∷ [])
 
--- How many decimal digits n has with no leading zero, at most 5: of a greater number the lowest 5 are written.
+-- "COUNT is 1 to 5 digits".
+abbrev pub countDigits : ℕ
+countDigits = 5
+
+-- How many decimal digits n has with no leading zero, at most those of a count: of a greater number so many, the lowest, are written.
 unfoldable pub decimalLen : ℕ → ℕ
-decimalLen n = cond (ltb n 10) 1 (cond (ltb n 100) 2 (cond (ltb n 1000) 3 (cond (ltb n 10000) 4 5)))
+decimalLen n = cond (ltb n 10) 1 (cond (ltb n 100) 2 (cond (ltb n 1000) 3 (cond (ltb n 10000) 4 countDigits)))
 
 abbrev pub decimalOf : ℕ → List ℕ
 decimalOf n = digitsOf 10 (decimalLen n) n
-
--- The first n bytes are digits of the base, few enough that their value is below 2^64.
-pub record Digits (base : ℕ) (l : List ℕ) (n : ℕ) : Type 0 where
-  pub base-most : base ≤ 16
-  pub most : n ≤ 16
-  pub within : n ≤ length l
-  pub small : (k : ℕ) → k < n → digitValue (getD l k 0) < base

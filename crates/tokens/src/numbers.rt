@@ -1,17 +1,21 @@
 // The value of digits, of base 10 or 16.
+use super::LETTER_0;
+use scans::DIGIT_0;
+use scans::DIGIT_9;
 ghost use mathlib.Core.Path.{_≡_};
 ghost use Prim.Native.Nat.{_-_};
 ghost use lib.ListN.{take, drop};
-ghost use Rattle.tokens.specs.Numbers.{digitValue, valueOf, Digits};
+ghost use Rattle.tokens.specs.Numbers.{digitValue, valueOf};
+ghost use Rattle.tokens.specs.InnerDigits.{Digits};
 
 // What a digit 0-9 or a-f is worth.
 fn digit_value(b: u8) -> u64
     ensures { λ r. ⌜ r ≡ digitValue b ⌝ }
 {
-    if b <= b'9' {
-        return minus(wide(b), 48);
+    if b <= DIGIT_9 {
+        return minus(wide(b), wide(DIGIT_0));
     }
-    minus(wide(b), 87)
+    minus(wide(b), LETTER_0)
 }
 
 // The value of len digits at a place.

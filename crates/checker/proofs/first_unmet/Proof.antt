@@ -5,8 +5,8 @@ use native.Mathlib.Omega.{arith}
 use Rattle.rules.specs.Table.{ruleAt}
 use Rattle.laws.specs.First.{AllBelow}
 use Rattle.checker.specs.Checking.{RuleMet}
-use Rattle.laws.proofs.First.{all-none, all-more, sought-here, sought-nowhere}
-use Rattle.checker.proofs.Meets.{rule-met, rule-unmet}
+use Rattle.laws.proofs.First.{all-none, sought-nowhere}
+use Rattle.checker.proofs.Meets.{all-met-more, unmet-here}
 use borrow.Author.Needs.{needs}
 use Rattle.checker.proofs.first_unmet.Statement.{statement}
 use Rattle.checker.proofs.first_unmet.Tie as tie
@@ -27,7 +27,7 @@ met-requires : tie.Need-met-requires Inv-loop μ-loop
 met-requires c κs = search needs
 
 returns : tie.Need-returns Inv-loop μ-loop
-returns c = sought-here (c .before .before .before .loop-test .taken) (c .before .before .before .before .loop .inv .0) (rule-unmet (c .before .before .rule-at .ensures) (c .before .met .ensures) (c .if1 .taken))
+returns c = search (unmet-here, needs)
 
 add-r : tie.Need-add-r Inv-loop μ-loop
 add-r c = search needs
@@ -36,7 +36,7 @@ loop-less : tie.Need-loop-less Inv-loop μ-loop
 loop-less c = search needs
 
 loop-again : tie.Need-loop-again Inv-loop μ-loop
-loop-again c = (all-more (c .before .before .before .before .loop .inv .0) (rule-met (c .before .before .rule-at .ensures) (c .before .met .ensures) (c .if1 .left)), omega arith)
+loop-again c = (search (all-met-more, needs), omega arith)
 
 returns-2 : tie.Need-returns-2 Inv-loop μ-loop
 returns-2 c = search (sought-nowhere, needs)

@@ -2,7 +2,7 @@
 use mathlib.Core.Path.{_≡_, refl}
 use mathlib.Core.Bool.{Bool, true, Bool·beq}
 use mathlib.Core.List.{List, [], _∷_}
-use Prim.Native.Nat.{ℕ, _+_, _*_, _/_, _%_, _≤_}
+use Prim.Native.Nat.{ℕ, _+_, _*_, _/_, _%_, _<_}
 use native.Mathlib.Omega.{arith}
 use lib.Dec.{eqb}
 use lib.ListN.{getD}
@@ -11,7 +11,7 @@ use Rattle.laws.specs.Every.{everyBelow}
 use Rattle.laws.proofs.Bools.{beq-same}
 use Rattle.laws.proofs.Every.{every-at}
 use Rattle.keys.specs.Keys.{nextAllowed}
-use Rattle.keys.proofs.KeyTexts.{next-past-rows, next-past-columns}
+use Rattle.keys.proofs.KeyTexts.{keyCount, next-past-rows, next-past-columns}
 use Rattle.keys.proofs.may_follow.Statement.{statement}
 use Rattle.keys.proofs.may_follow.Tie as tie
 
@@ -23,19 +23,23 @@ cells =
 
 -- The cell's rule, and the test of it.
 right : ℕ → Bool
-right i = Bool·beq (eqb (getD cells i 0) 1) (nextAllowed (i / 6) (i % 6))
+right i = Bool·beq (eqb (getD cells i 0) 1) (nextAllowed (i / keyCount) (i % keyCount))
 
-cells-right : everyBelow 36 right ≡ true
+cells-right : everyBelow (keyCount * keyCount) right ≡ true
 unfolding everyBelow cells right nextAllowed
 cells-right = refl
 
-cell : (after key : ℕ) → after ≤ 5 → key ≤ 5 → eqb (getD cells (after * 6 + key) 0) 1 ≡ nextAllowed after key
-unfolding right
-cell after key h g =
-    let row : (after * 6 + key) / 6 ≡ after = omega arith in
-    let column : (after * 6 + key) % 6 ≡ key = omega arith in
-    beq-same (eqb (getD cells (after * 6 + key) 0) 1) (nextAllowed after key)
-    (rw (row, column) at (every-at 36 right cells-right (after * 6 + key) (omega arith)))
+module _ (after key : ℕ) where
+  place : ℕ
+  place = after * keyCount + key
+
+  cell : after < keyCount → key < keyCount → eqb (getD cells place 0) 1 ≡ nextAllowed after key
+  unfolding right place
+  cell h g =
+      let row : place / keyCount ≡ after = omega arith in
+      let column : place % keyCount ≡ key = omega arith in
+      beq-same (eqb (getD cells place 0) 1) (nextAllowed after key)
+      (rw (row, column) at (every-at (keyCount * keyCount) right cells-right place (omega arith)))
 
 returns : tie.Need-returns
 returns c = search (next-past-rows, needs)
@@ -53,7 +57,7 @@ array-read-result : tie.Need-array-read-result
 array-read-result c = search needs
 
 returns-3 : tie.Need-returns-3
-unfolding cells
+unfolding cells place
 returns-3 c = cell _ _ (omega arith) (omega arith)
 
 pub may-follow-spec : {M : Type 1} → statement M

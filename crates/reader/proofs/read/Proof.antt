@@ -1,8 +1,11 @@
 -- `read` meets its contract. Assumes nothing.
-use Rattle.reader.proofs.Answers.{starts-empty, says-too-long, says-refused, bytes-fit, words-fit, bytes-within, words-within, says-no-items, says-no-rules, rules-room, says-book}
+use Rattle.reader.proofs.Answers.{starts-empty, says-too-long, says-refused, bytes-fit, words-fit, bytes-within, words-within, says-no-items, says-no-rules, says-book}
 use borrow.Author.Needs.{needs}
 use Rattle.reader.proofs.read.Statement.{statement}
 use Rattle.reader.proofs.read.Tie as tie
+
+refused-requires : tie.Need-refused-requires
+refused-requires c κs = search needs
 
 returns : tie.Need-returns
 returns c = search (says-too-long, needs)
@@ -26,13 +29,19 @@ returns-2 : tie.Need-returns-2
 returns-2 c = search (says-refused, needs)
 
 mul-bytes : tie.Need-mul-bytes
-mul-bytes c = search (bytes-fit, needs)
+mul-bytes c = bytes-fit (c .before .before .before .before .before .before .before .before .before .if1 .left) (c .before .before .before .before .before .before .read-lines .ensures) (c .before .before .answer .given .1)
 
 mul-size : tie.Need-mul-size
-mul-size c = search (words-fit, needs)
+mul-size c = words-fit (c .before .before .before .before .before .before .before .before .before .before .if1 .left) (c .before .before .before .before .before .before .before .read-lines .ensures) (c .before .before .before .answer .given .1)
+
+refused-requires-2 : tie.Need-refused-requires-2
+refused-requires-2 c κs = search needs
 
 returns-3 : tie.Need-returns-3
 returns-3 c = search (says-no-items, needs)
+
+refused-requires-3 : tie.Need-refused-requires-3
+refused-requires-3 c κs = search needs
 
 returns-4 : tie.Need-returns-4
 returns-4 c = search (says-no-rules, needs)
@@ -59,7 +68,7 @@ part-put-words-end : tie.Need-part-put-words-end
 part-put-words-end c = search (words-within, needs)
 
 put-words-requires : tie.Need-put-words-requires
-put-words-requires c κs = search (rules-room, needs)
+put-words-requires c κs = search needs
 
 same-length : tie.Need-same-length
 same-length c = search needs
@@ -68,12 +77,13 @@ same-length-2 : tie.Need-same-length-2
 same-length-2 c = search needs
 
 returns-5 : tie.Need-returns-5
-returns-5 c = says-book _ (c .before .before .before .before .before .before .before .before .before .before .before .before .before .before .before .before .before .before .before .before .before .before .if1 .left) (c .before .before .before .before .before .before .before .before .before .before .before .before .before .before .before .before .before .before .before .read-lines .ensures) (c .before .before .before .before .before .before .before .before .before .before .before .before .before .before .before .answer .given .1) (c .before .before .before .before .before .before .before .before .before .before .before .before .before .if2 .left) (c .before .before .before .before .before .before .before .before .before .before .before .before .if3 .left) (search needs) (c .before .before .before .before .before .before .before .before .put .ensures) (c .before .before .put-words .ensures)
+returns-5 c = says-book (c .before .before .before .before .before .before .before .before .before .before .before .before .before .before .before .before .before .before .before .before .before .before .before .before .if1 .left) (c .before .before .before .before .before .before .before .before .before .before .before .before .before .before .before .before .before .before .before .before .before .read-lines .ensures) (c .before .before .before .before .before .before .before .before .before .before .before .before .before .before .before .before .before .answer .given .1) (c .before .before .before .before .before .before .before .before .before .before .before .before .before .if2 .left) (c .before .before .before .before .before .before .before .before .before .before .before .before .if3 .left) (c .before .before .before .before .before .before .before .before .put .ensures) (c .before .before .put-words .ensures)
 
 pub read-spec : {M : Type 1} → statement M
 read-spec =
     tie.close
     (tie.spec
+    refused-requires
     returns
     slice-aggregate-read-lines
     slice-aggregate-read-lines-2
@@ -83,7 +93,9 @@ read-spec =
     returns-2
     mul-bytes
     mul-size
+    refused-requires-2
     returns-3
+    refused-requires-3
     returns-4
     sub-put
     part-put-start

@@ -6,6 +6,7 @@ use Prim.Native.Nat.{ℕ, _≤_, _<_}
 use lib.Dec.{eqb}
 use borrow.Author.Needs.{needs}
 use borrow.Author.Tests.{lt-ltb, le-ltb}
+use Rattle.scans.specs.Ascii.{digit0}
 use Rattle.scans.specs.Bytes.{byteAt}
 use Rattle.tokens.specs.Tokens.{leadingZero}
 use Rattle.tokens.proofs.leading_zero.Statement.{statement}
@@ -15,7 +16,7 @@ single : (l : List ℕ) (n : ℕ) → n ≤ 1 → false ≡ leadingZero l n
 unfolding leadingZero
 single l n h = rw (le-ltb 1 n h)
 
-several : (l : List ℕ) (n b : ℕ) → 1 < n → b ≡ byteAt l → eqb b 48 ≡ leadingZero l n
+several : (l : List ℕ) (n b : ℕ) → 1 < n → b ≡ byteAt l → eqb b digit0 ≡ leadingZero l n
 unfolding leadingZero
 several l n b h e = rw (e, lt-ltb 1 n h)
 

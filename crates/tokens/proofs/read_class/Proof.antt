@@ -28,8 +28,8 @@ byte-at-requires c κs = search needs
 returns-3 : tie.Need-returns-3
 returns-3 c = search (class-slash, needs)
 
-add-hex : tie.Need-add-hex
-add-hex c = search (marks-fits, needs)
+add-marks : tie.Need-add-marks
+add-marks c = search (marks-fits, needs)
 
 run-requires : tie.Need-run-requires
 run-requires c κs = search needs
@@ -43,8 +43,8 @@ value-requires c κs = search (class-digits, needs)
 new-requires : tie.Need-new-requires
 new-requires c κs = search needs
 
-add-t10 : tie.Need-add-t10
-add-t10 c = search (class-fits, needs)
+add-len : tie.Need-add-len
+add-len c = search (class-fits, needs)
 
 returns-5 : tie.Need-returns-5
 returns-5 c = search (class-found, needs)
@@ -61,10 +61,10 @@ read-class-spec =
     add-slash
     byte-at-requires
     returns-3
-    add-hex
+    add-marks
     run-requires
     returns-4
     value-requires
     new-requires
-    add-t10
+    add-len
     returns-5)

@@ -25,17 +25,17 @@ use ghost.Atoms.{Atoms, sem}
 use contract.Lifetimes.{Lfts, Shares}
 use contract.Monad.{Fun, fact}
 use contract.Running.{givenOf, tables, tablesOf}
-use types.Kit.{Given, Item, put, Sq, ‵, raw, runs, anyQ, atRet, _⊛_, given, ⋆, some, later, _$_, _∵_, !, qed, by, move, keep, drop, use0, use1, use2, use3, split, join, pick, rewrite, fsplit, fjoin, suffices, frame, await, done}
+use types.Kit.{Given, Item, put, Sq, ‵, raw, runs, anyQ, atRet, _⊛_, ⋆, some, later, _$_, _∵_, !, qed, by, move, keep, drop, use0, use1, use2, use3, split, join, pick, rewrite, fsplit, fjoin, suffices, frame, await, done}
 use types.Part.{whole, sub, look-in}
 use types.Run.{look, look-raw, store, init, forget, stop, hop, fld, from, load, lit, of-opd, bin, and-then, no-more, assigns, assigns-last, land, first, skips, jumps, blocks, branches, returns, enter, exec, alloc1, alloc0, params1, pass1, pass0, free1, free0, Below, again, loops}
 use sound.WpLaws.{FmC, fmOf, WpFn-mono}
 use denote.RattleType.{RattleType, owns}
 use denote.Signature.{Slot, plain, typesAt}
 use denote.Laws.{Is, shows}
-use denote.Plain.{uint-vals, uint-tells, uint-makes, uint-lawful}
+use denote.Plain.{uint-makes, uint-lawful}
 use denote.Builtin.{u64, usize, SliceRefOf}
 use denote.Index.{place, place-is, elem-out, elem-back, looks-slice, shuts-slice}
-use denote.Memory.{pointee, shares}
+use denote.Memory.{mem, pointee, shares}
 use types.Share.{arr-parts}
 use denote.Ref.{RefT, now, ptr}
 use denote.Slice.{sliceTy, sliceVal, slice-vals, ShrSlice, Room, shr-slice-tells, shr-slice-lawful, shr-slice-copy}
@@ -50,16 +50,19 @@ use denote.Triple.Table.{entered, cited}
 use denote.Triple.Walked.{says, Stays, stay-dropped, walkOf, goes-dropped, Walks, ends-at, walked, walk-meets}
 use denote.Exit.{yes}
 use denote.Triple.Clauses.{ensured, lasts}
+use Rattle.rules.specs.declared.Head.{Head}
 use Rattle.rules.specs.declared.Rule.{Rule}
 use Rattle.rules.specs.Table.{ruleAt}
+use Rattle.rules.proofs.Head as D
+use Rattle.rules.proofs.Head.Laws as D′
 use Rattle.rules.proofs.Rule as R
 use Rattle.rules.proofs.Rule.Laws as R′
 use Rattle.checker.specs.declared.Checked.{Checked}
 use Rattle.checker.specs.declared.list.Seen.{Seen}
-use Rattle.checker.specs.Answer.{said}
+use Rattle.checker.specs.Answer.{saidChecked}
 use Rattle.checker.specs.Checking.{CheckSays}
 use Rattle.checker.specs.List.{listAt, ListAccepted}
-use Rattle.checker.specs.Walking.{Count, Known, Starts, GoesOn, Concludes}
+use Rattle.checker.specs.InnerWalking.{Count, SeenSoFar, Starts, GoesOn, Concludes}
 use Rattle.checker.proofs.Checked as K
 use Rattle.checker.proofs.Checked.Laws as K′
 use Rattle.checker.proofs.list.Seen as S
@@ -95,12 +98,12 @@ behind (exit k) = skip
 behind return = skip
 behind (call f xs d) = skip
 
--- the parameters: the list, a number, and labels
+-- the parameters: the list, the head, and labels
 abbrev listed-rules : Slot 3
 listed-rules = SliceRefOf (0 ∷ []) tt (plain (λ _. R.the-row)) (λ _. tt)
 
-abbrev number : Slot 3
-number = plain (λ _. usize)
+abbrev passed-head : Slot 3
+passed-head = plain (λ _. D.the-row)
 
 abbrev lent-levels : Slot 3
 lent-levels = SliceRefOf (1 ∷ []) tt (plain (λ _. u64)) (λ _. tt)
@@ -110,7 +113,11 @@ lent-marks = SliceRefOf (2 ∷ []) tt (plain (λ _. u64)) (λ _. tt)
 
 -- Nothing is had of them at exit.
 abbrev stayed : Stays (this.ended .signature .params) (this.ended .kept)
-stayed = (stay-dropped listed-rules yes, (stay-dropped number yes, (stay-dropped number yes, (stay-dropped lent-levels yes, (stay-dropped lent-marks yes, tt)))))
+stayed = (stay-dropped listed-rules yes, (stay-dropped passed-head yes, (stay-dropped lent-levels yes, (stay-dropped lent-marks yes, tt))))
+
+-- one rule's bytes
+abbrev ruleBytes : ℕ
+ruleBytes = mem R.the-row .size
 
 -- The contracts that the walk cites.
 module _ {M : Type 1} (𝓤 : URA M) (H : Heap 𝓤) (A : Atoms 𝓤) (mem : Memory → SProp 𝓤) (run : Routine → Fun 𝓤) where
@@ -127,7 +134,7 @@ module _ {M : Type 1} (𝓤 : URA M) (H : Heap 𝓤) (A : Atoms 𝓤) (mem : Mem
   Last = tripleOf 𝓤 H A last.signature (last.spec 𝓤 H A mem run)
 
 module _ {M : Type 1} (𝓤 : URA M) (H : Heap 𝓤) (A : Atoms 𝓤) (W : Given 𝓤 H A) (mem : Memory → SProp 𝓤) (run : Routine → Fun 𝓤)
-    (κ₀ κ₁ κ₂ : Lft) (q₀ q₁ q₂ : Share) (rules : RefT (List Rule)) (m n : ℕ) (levels marks : RefT (List ℕ)) where
+    (κ₀ κ₁ κ₂ : Lft) (q₀ q₁ q₂ : Share) (rules : RefT (List Rule)) (head : Head) (levels marks : RefT (List ℕ)) where
   abbrev κs : Lfts 3
   κs = (κ₀, (κ₁, (κ₂, tt)))
 
@@ -135,10 +142,14 @@ module _ {M : Type 1} (𝓤 : URA M) (H : Heap 𝓤) (A : Atoms 𝓤) (W : Given
   qs = (q₀, (q₁, (q₂, tt)))
 
   abbrev args : Args this.signature κs
-  args = (rules, (m, (n, (levels, (marks, tt)))))
+  args = (rules, (head, (levels, (marks, tt))))
+
+  -- the head as the machine holds it
+  abbrev hv : Val
+  hv = LL.val D.the-type D′.the-laws head
 
   abbrev at : Vals this.signature κs
-  at = (slice-vals rules, (vint w64 m ∷ [], (vint w64 n ∷ [], (slice-vals levels, (slice-vals marks, tt)))))
+  at = (slice-vals rules, (hv ∷ [], (slice-vals levels, (slice-vals marks, tt))))
 
   abbrev Post : Val → SProp 𝓤
   Post = walkOf 𝓤 H A this.ended stayed (this.clauses 𝓤 H A mem run) .post ((κs, qs, tt, args, at), tt)
@@ -147,11 +158,15 @@ module _ {M : Type 1} (𝓤 : URA M) (H : Heap 𝓤) (A : Atoms 𝓤) (W : Given
   abbrev Alive : Item 𝓤
   Alive = ‵ (flft κ₀ q₀) ⊛ (‵ (flft κ₁ q₁) ⊛ (‵ (flft κ₂ q₂) ⊛ ‵ ftrue))
 
-  exits : (r : Checked) (u : Val) → CheckSays (ListAccepted (now rules) m n) (listAt (now rules)) m n (now levels) (now marks) (said r) → ent 𝓤 (⋆ 𝓤 H A (‵ (K.the-row .own r (u ∷ [])) ∷ Alive ∷ [])) (Post u)
+  -- what the answer has to say
+  abbrev Says : Checked → Type 0
+  Says r = CheckSays (ListAccepted head (now rules)) head (listAt (now rules)) (now levels) (now marks) (saidChecked r)
+
+  exits : (r : Checked) (u : Val) → Says r → ent 𝓤 (⋆ 𝓤 H A (‵ (K.the-row .own r (u ∷ [])) ∷ Alive ∷ [])) (Post u)
   exits r u e =
       qed W (‵ (K.the-row .own r (u ∷ [])) ∷ Alive ∷ []) ∵
-      suffices ! _ (ends-at 𝓤 H A this.ended stayed (this.clauses 𝓤 H A mem run) W ((κs, qs, tt, args, at), tt) u r (tt, (tt, (tt, (tt, (tt, tt))))) (tt, (tt, (tt, (tt, (tt, tt)))))) $ says ! e $
-      move ! (1 ∷ []) $ frame ! $ nothing ! $ nothing ! $ fjoin ! $ nothing ! $ fjoin ! $ nothing ! $ fjoin ! $ nothing ! $ fjoin ! $ nothing ! $ fjoin ! $ frame ! $ done !
+      suffices ! _ (ends-at 𝓤 H A this.ended stayed (this.clauses 𝓤 H A mem run) W ((κs, qs, tt, args, at), tt) u r (tt, (tt, (tt, (tt, tt)))) (tt, (tt, (tt, (tt, tt))))) $ says ! e $
+      move ! (1 ∷ []) $ frame ! $ nothing ! $ nothing ! $ fjoin ! $ nothing ! $ fjoin ! $ nothing ! $ fjoin ! $ nothing ! $ fjoin ! $ frame ! $ done !
 
   -- what the slices of labels own
   abbrev Levels : Fml
@@ -186,71 +201,71 @@ module _ {M : Type 1} (𝓤 : URA M) (H : Heap 𝓤) (A : Atoms 𝓤) (W : Given
   -- one rule more
   module _ (s : Seen) (x : Rule) (i : ℕ) (u v : Val) where
     abbrev step-args : Args step.signature κs′
-    step-args = (s, (x, (i, (n, (levels, (marks, tt))))))
+    step-args = (s, (x, (i, (head, (levels, (marks, tt))))))
 
     abbrev step-vals : Vals step.signature κs′
-    step-vals = (u ∷ [], (v ∷ [], (vint w64 i ∷ [], (vint w64 n ∷ [], (slice-vals levels, (slice-vals marks, tt))))))
+    step-vals = (u ∷ [], (v ∷ [], (vint w64 i ∷ [], (hv ∷ [], (slice-vals levels, (slice-vals marks, tt))))))
 
     abbrev to-step : Step 𝓤 H A mem run .Ghost
     to-step = ((κs′, qs′, tt, step-args, step-vals), tt)
 
-    step-asked : Is S.the-row s (u ∷ []) → Is R.the-row x (v ∷ []) → i < 2 ^ 64 → n < 2 ^ 64 → ent 𝓤 (⋆ 𝓤 H A Lent) (⋆ 𝓤 H A (raw (Step 𝓤 H A mem run .pre to-step) ∷ ‵ Levels ∷ ‵ Marks ∷ []))
-    step-asked is isx gi gn =
+    step-asked : Is S.the-row s (u ∷ []) → Is R.the-row x (v ∷ []) → i < 2 ^ 64 → Is D.the-row head (hv ∷ []) → ent 𝓤 (⋆ 𝓤 H A Lent) (⋆ 𝓤 H A (raw (Step 𝓤 H A mem run .pre to-step) ∷ ‵ Levels ∷ ‵ Marks ∷ []))
+    step-asked is isx gi ish =
         via 𝓤 _ lends
         (qed W (‵ (owns Both (levels, (marks, tt)) (slice-vals levels, (slice-vals marks, tt))) ∷ Alive′ ∷ ‵ Levels ∷ ‵ Marks ∷ []) ∵
-        owned ! usize (Is usize) (uint-makes 𝓤 H A W w64) n (vint w64 n ∷ []) (refl, gn) $ fjoin ! $ owned ! usize (Is usize) (uint-makes 𝓤 H A W w64) i (vint w64 i ∷ []) (refl, gi) $ fjoin ! $
+        owned ! D.the-row (Is D.the-row) (LL.makes D.the-type D′.the-plain 𝓤 H A) head (hv ∷ []) ish $ fjoin ! $ owned ! usize (Is usize) (uint-makes 𝓤 H A W w64) i (vint w64 i ∷ []) (refl, gi) $ fjoin ! $
         owned ! R.the-row (Is R.the-row) (LL.makes R.the-type R′.the-plain 𝓤 H A) x (v ∷ []) isx $ fjoin ! $ owned ! S.the-row (Is S.the-row) (LL.makes S.the-type S′.the-plain 𝓤 H A) s (u ∷ []) is $ fjoin ! $
         move ! (1 ∷ 0 ∷ []) $ use2 W (raw (Step 𝓤 H A mem run .pre to-step)) asked $ done !)
       where
         asked : ent 𝓤 (onEntry 𝓤 H A step.signature κs′ qs′ step-args step-vals) (Step 𝓤 H A mem run .pre to-step)
         asked = qed W (Alive′ ∷ ‵ (owns (typesAt (step.signature .params) κs′) step-args step-vals) ∷ []) ∵ join ! $ frame ! $ done !
 
-    step-told : (r : Seen) → ent 𝓤 (ensured 𝓤 H A step.ended (step.clauses 𝓤 H A mem run) κs′ step-args tt r) (fact 𝓤 (GoesOn s x i n (now levels) (now marks) r))
-    step-told r = exE 𝓤 _ (λ ws. snd∗ 𝓤 (sem 𝓤 H A (lasts step.ended κs′ step-args ws)) (fact 𝓤 (GoesOn s x i n (now levels) (now marks) r)))
+    step-told : (r : Seen) → ent 𝓤 (ensured 𝓤 H A step.ended (step.clauses 𝓤 H A mem run) κs′ step-args tt r) (fact 𝓤 (GoesOn s x i head (now levels) (now marks) r))
+    step-told r = exE 𝓤 _ (λ ws. snd∗ 𝓤 (sem 𝓤 H A (lasts step.ended κs′ step-args ws)) (fact 𝓤 (GoesOn s x i head (now levels) (now marks) r)))
 
   -- the end
   module _ (s : Seen) (len : ℕ) (u : Val) where
     abbrev last-args : Args last.signature κs′
-    last-args = (s, (len, (m, (n, (levels, (marks, tt))))))
+    last-args = (s, (len, (head, (levels, (marks, tt)))))
 
     abbrev last-vals : Vals last.signature κs′
-    last-vals = (u ∷ [], (vint w64 len ∷ [], (vint w64 m ∷ [], (vint w64 n ∷ [], (slice-vals levels, (slice-vals marks, tt))))))
+    last-vals = (u ∷ [], (vint w64 len ∷ [], (hv ∷ [], (slice-vals levels, (slice-vals marks, tt)))))
 
     abbrev to-last : Last 𝓤 H A mem run .Ghost
     to-last = ((κs′, qs′, tt, last-args, last-vals), tt)
 
-    last-asked : Is S.the-row s (u ∷ []) → len < 2 ^ 64 → m < 2 ^ 64 → n < 2 ^ 64 → ent 𝓤 (⋆ 𝓤 H A Lent) (⋆ 𝓤 H A (raw (Last 𝓤 H A mem run .pre to-last) ∷ ‵ Levels ∷ ‵ Marks ∷ []))
-    last-asked is gl gm gn =
+    last-asked : Is S.the-row s (u ∷ []) → len < 2 ^ 64 → Is D.the-row head (hv ∷ []) → ent 𝓤 (⋆ 𝓤 H A Lent) (⋆ 𝓤 H A (raw (Last 𝓤 H A mem run .pre to-last) ∷ ‵ Levels ∷ ‵ Marks ∷ []))
+    last-asked is gl ish =
         via 𝓤 _ lends
         (qed W (‵ (owns Both (levels, (marks, tt)) (slice-vals levels, (slice-vals marks, tt))) ∷ Alive′ ∷ ‵ Levels ∷ ‵ Marks ∷ []) ∵
-        owned ! usize (Is usize) (uint-makes 𝓤 H A W w64) n (vint w64 n ∷ []) (refl, gn) $ fjoin ! $ owned ! usize (Is usize) (uint-makes 𝓤 H A W w64) m (vint w64 m ∷ []) (refl, gm) $ fjoin ! $
+        owned ! D.the-row (Is D.the-row) (LL.makes D.the-type D′.the-plain 𝓤 H A) head (hv ∷ []) ish $ fjoin ! $
         owned ! usize (Is usize) (uint-makes 𝓤 H A W w64) len (vint w64 len ∷ []) (refl, gl) $ fjoin ! $ owned ! S.the-row (Is S.the-row) (LL.makes S.the-type S′.the-plain 𝓤 H A) s (u ∷ []) is $ fjoin ! $
         move ! (1 ∷ 0 ∷ []) $ use2 W (raw (Last 𝓤 H A mem run .pre to-last)) asked $ done !)
       where
         asked : ent 𝓤 (onEntry 𝓤 H A last.signature κs′ qs′ last-args last-vals) (Last 𝓤 H A mem run .pre to-last)
         asked = qed W (Alive′ ∷ ‵ (owns (typesAt (last.signature .params) κs′) last-args last-vals) ∷ []) ∵ join ! $ frame ! $ done !
 
-    last-told : (r : Checked) → ent 𝓤 (ensured 𝓤 H A last.ended (last.clauses 𝓤 H A mem run) κs′ last-args tt r) (fact 𝓤 (Concludes s len m n (now levels) (now marks) (said r)))
-    last-told r = exE 𝓤 _ (λ ws. snd∗ 𝓤 (sem 𝓤 H A (lasts last.ended κs′ last-args ws)) (fact 𝓤 (Concludes s len m n (now levels) (now marks) (said r))))
+    last-told : (r : Checked) → ent 𝓤 (ensured 𝓤 H A last.ended (last.clauses 𝓤 H A mem run) κs′ last-args tt r) (fact 𝓤 (Concludes s len head (now levels) (now marks) (saidChecked r)))
+    last-told r = exE 𝓤 _ (λ ws. snd∗ 𝓤 (sem 𝓤 H A (lasts last.ended κs′ last-args ws)) (fact 𝓤 (Concludes s len head (now levels) (now marks) (saidChecked r))))
 
   -- how many rules are looked at
   module _ (len : ℕ) where
     abbrev listed-args : Args listed.signature tt
-    listed-args = (len, (m, (n, tt)))
+    listed-args = (len, (head, tt))
 
     abbrev listed-vals : Vals listed.signature tt
-    listed-vals = (vint w64 len ∷ [], (vint w64 m ∷ [], (vint w64 n ∷ [], tt)))
+    listed-vals = (vint w64 len ∷ [], (hv ∷ [], tt))
 
     abbrev to-listed : Listed 𝓤 H A mem run .Ghost
     to-listed = ((tt, tt, tt, listed-args, listed-vals), tt)
 
-    listed-asked : len < 2 ^ 64 → m < 2 ^ 64 → n < 2 ^ 64 → ent 𝓤 (emp 𝓤) (Listed 𝓤 H A mem run .pre to-listed)
-    listed-asked gl gm gn =
-        qed W [] ∵ nothing ! $ owned ! usize (Is usize) (uint-makes 𝓤 H A W w64) n (vint w64 n ∷ []) (refl, gn) $ fjoin ! $ owned ! usize (Is usize) (uint-makes 𝓤 H A W w64) m (vint w64 m ∷ []) (refl, gm) $ fjoin ! $
+    listed-asked : len < 2 ^ 64 → Is D.the-row head (hv ∷ []) → ent 𝓤 (emp 𝓤) (Listed 𝓤 H A mem run .pre to-listed)
+    listed-asked gl ish =
+        qed W [] ∵ nothing ! $ owned ! D.the-row (Is D.the-row) (LL.makes D.the-type D′.the-plain 𝓤 H A) head (hv ∷ []) ish $ fjoin ! $
         owned ! usize (Is usize) (uint-makes 𝓤 H A W w64) len (vint w64 len ∷ []) (refl, gl) $ fjoin ! $ nothing ! $ join ! $ frame ! $ done !
 
-    listed-told : (r : ℕ) → ent 𝓤 (ensured 𝓤 H A listed.ended (listed.clauses 𝓤 H A mem run) tt listed-args tt r) (fact 𝓤 (Count len m n r))
-    listed-told r = exE 𝓤 _ (λ ws. snd∗ 𝓤 (sem 𝓤 H A (lasts listed.ended tt listed-args ws)) (fact 𝓤 (Count len m n r)))
+    listed-told : (r : ℕ) → ent 𝓤 (ensured 𝓤 H A listed.ended (listed.clauses 𝓤 H A mem run) tt listed-args tt r) (fact 𝓤 (Count len head r))
+    listed-told r = exE 𝓤 _ (λ ws. snd∗ 𝓤 (sem 𝓤 H A (lasts listed.ended tt listed-args ws)) (fact 𝓤 (Count len head r)))
 
   -- before the first rule
   abbrev to-start : Start 𝓤 H A mem run .Ghost
@@ -273,7 +288,7 @@ module _ {M : Type 1} (𝓤 : URA M) (H : Heap 𝓤) (A : Atoms 𝓤) (W : Given
   opens =
       qed W (Alive ∷ ‵ (owns (typesAt (this.signature .params) κs) args at) ∷ []) ∵ split ! $ move ! (1 ∷ []) $ split ! $ move ! (1 ∷ []) $ split ! $ move ! (1 ∷ []) $ drop ! $
       -- [three tokens, the last first; what the parameters own]
-      move ! (3 ∷ []) $ fsplit ! $ fsplit ! $ drop ! $ fsplit ! $ drop ! $ move ! (1 ∷ []) $ fsplit ! $ drop ! $ fsplit ! $ drop ! $ fsplit ! $ move ! (1 ∷ []) $ fsplit ! $ move ! (1 ∷ []) $ drop ! $
+      move ! (3 ∷ []) $ fsplit ! $ fsplit ! $ drop ! $ fsplit ! $ drop ! $ move ! (1 ∷ []) $ fsplit ! $ drop ! $ fsplit ! $ move ! (1 ∷ []) $ fsplit ! $ move ! (1 ∷ []) $ drop ! $
       -- [the marks; the levels; the list; three tokens]
       move ! (1 ∷ 0 ∷ []) $ join ! $ move ! (2 ∷ 0 ∷ []) $ join ! $ move ! (2 ∷ 0 ∷ []) $ join ! $ move ! (0 ∷ 2 ∷ 1 ∷ []) $ done !
 
@@ -293,7 +308,7 @@ module _ {M : Type 1} (𝓤 : URA M) (H : Heap 𝓤) (A : Atoms 𝓤) (W : Given
     s : Seen
     u : Val
     is : Is S.the-row s (u ∷ [])
-    known : Known (listAt ys) n (now levels) (now marks) i s
+    known : SeenSoFar head (listAt ys) (now levels) (now marks) i s
 
   abbrev Nearer : (c : ℕ) → Here c → Here c → Type 0
   Nearer c j t = c - j .i < c - t .i
@@ -315,7 +330,7 @@ module _ {M : Type 1} (𝓤 : URA M) (H : Heap 𝓤) (A : Atoms 𝓤) (W : Given
 
   module _ (𝓣 : Tables 𝓤 H) (known-listed : Triple 𝓤 (𝓣 .C listed-def.name) (Listed 𝓤 H A mem run)) (known-start : Triple 𝓤 (𝓣 .C start-def.name) (Start 𝓤 H A mem run))
       (known-step : Triple 𝓤 (𝓣 .C step-def.name) (Step 𝓤 H A mem run)) (known-last : Triple 𝓤 (𝓣 .C last-def.name) (Last 𝓤 H A mem run))
-      (fits : Room R.the-row (length ys)) (gm : m < 2 ^ 64) (gn : n < 2 ^ 64) (l₀ l₁ l₂ l₃ l₄ l₅ l₆ l₇ l₈ l₉ l₁₀ l₁₁ l₁₂ l₁₃ : ℕ) where
+      (fits : Room R.the-row (length ys)) (ish : Is D.the-row head (hv ∷ [])) (l₀ l₁ l₂ l₃ l₄ l₅ l₆ l₇ l₈ l₉ l₁₀ l₁₁ l₁₂ : ℕ) where
     abbrev C : Calls 𝓤 H
     C = 𝓣 .C
 
@@ -323,40 +338,40 @@ module _ {M : Type 1} (𝓤 : URA M) (H : Heap 𝓤) (A : Atoms 𝓤) (W : Given
     Λ = 𝓣 .Λ
 
     abbrev En : Env 𝓤 H
-    En = (K′.mir, l₀) ∷ (rulesTy, l₁) ∷ (word, l₂) ∷ (word, l₃) ∷ (levelsTy, l₄) ∷ (marksTy, l₅) ∷ (word, l₆) ∷ (word, l₇) ∷ (S′.mir, l₈) ∷ (word, l₉) ∷ (tyBool, l₁₀) ∷ (word, l₁₁) ∷ (tyPtr, l₁₂) ∷ (R′.mir, l₁₃) ∷ []
+    En = (K′.mir, l₀) ∷ (rulesTy, l₁) ∷ (D′.mir, l₂) ∷ (levelsTy, l₃) ∷ (marksTy, l₄) ∷ (word, l₅) ∷ (word, l₆) ∷ (S′.mir, l₇) ∷ (word, l₈) ∷ (tyBool, l₉) ∷ (word, l₁₀) ∷ (tyPtr, l₁₁) ∷ (R′.mir, l₁₂) ∷ []
 
     -- the parameters and the result
     abbrev Passed : List (Item 𝓤)
     Passed =
-        ‵ (fat fullShare marksTy l₅ 0 (sliceVal (ptr marks) (length (now marks)))) ∷ ‵ (fdies marksTy l₅) ∷ ‵ (fat fullShare levelsTy l₄ 0 (sliceVal (ptr levels) (length (now levels)))) ∷ ‵ (fdies levelsTy l₄) ∷
-        ‵ (fat fullShare word l₃ 0 (vint w64 n)) ∷ ‵ (fdies word l₃) ∷ ‵ (fat fullShare word l₂ 0 (vint w64 m)) ∷ ‵ (fdies word l₂) ∷
+        ‵ (fat fullShare marksTy l₄ 0 (sliceVal (ptr marks) (length (now marks)))) ∷ ‵ (fdies marksTy l₄) ∷ ‵ (fat fullShare levelsTy l₃ 0 (sliceVal (ptr levels) (length (now levels)))) ∷ ‵ (fdies levelsTy l₃) ∷
+        ‵ (fat fullShare D′.mir l₂ 0 hv) ∷ ‵ (fdies D′.mir l₂) ∷
         ‵ (fat fullShare rulesTy l₁ 0 (sliceVal (ptr rules) (length ys))) ∷ ‵ (fdies rulesTy l₁) ∷ ‵ (froom K′.mir l₀ 0) ∷ ‵ (fdies K′.mir l₀) ∷ []
 
     -- the locals at the start, with the parameters in theirs
     abbrev Fresh : List (Item 𝓤)
     Fresh =
-        ‵ (froom R′.mir l₁₃ 0) ∷ ‵ (fdies R′.mir l₁₃) ∷ ‵ (froom tyPtr l₁₂ 0) ∷ ‵ (fdies tyPtr l₁₂) ∷ ‵ (froom word l₁₁ 0) ∷ ‵ (fdies word l₁₁) ∷ ‵ (froom tyBool l₁₀ 0) ∷ ‵ (fdies tyBool l₁₀) ∷
-        ‵ (froom word l₉ 0) ∷ ‵ (fdies word l₉) ∷ ‵ (froom S′.mir l₈ 0) ∷ ‵ (fdies S′.mir l₈) ∷ ‵ (froom word l₇ 0) ∷ ‵ (fdies word l₇) ∷ ‵ (froom word l₆ 0) ∷ ‵ (fdies word l₆) ∷
+        ‵ (froom R′.mir l₁₂ 0) ∷ ‵ (fdies R′.mir l₁₂) ∷ ‵ (froom tyPtr l₁₁ 0) ∷ ‵ (fdies tyPtr l₁₁) ∷ ‵ (froom word l₁₀ 0) ∷ ‵ (fdies word l₁₀) ∷ ‵ (froom tyBool l₉ 0) ∷ ‵ (fdies tyBool l₉) ∷
+        ‵ (froom word l₈ 0) ∷ ‵ (fdies word l₈) ∷ ‵ (froom S′.mir l₇ 0) ∷ ‵ (fdies S′.mir l₇) ∷ ‵ (froom word l₆ 0) ∷ ‵ (fdies word l₆) ∷ ‵ (froom word l₅ 0) ∷ ‵ (fdies word l₅) ∷
         (Passed ++ (Alive ∷ ‵ (owns (typesAt (this.signature .params) κs) args at) ∷ []))
 
     fm : FmC 𝓤 H (W .laws) C
     fm = fmOf 𝓤 H (W .laws) 𝓣
 
-    module _ (c : ℕ) (count : Count (length ys) m n c) where
+    module _ (c : ℕ) (count : Count (length ys) head c) where
       -- all that there is: what a callee takes of the labels, the list, and the locals, of which the last four hold x, p, k and y once a turn has filled them
       abbrev Held : Here c → List (Item 𝓤) → List (Item 𝓤)
       Held t turn =
           raw (⋆ 𝓤 H A Lent) ∷ ‵ (flft κ₀ q₀) ∷ ‵ Rules ∷ (turn ++
-          (‵ (fat fullShare word l₉ 0 (vint w64 (t .i))) ∷ ‵ (fdies word l₉) ∷ ‵ (fat fullShare S′.mir l₈ 0 (t .u)) ∷ ‵ (fdies S′.mir l₈) ∷ ‵ (fat fullShare word l₇ 0 (vint w64 c)) ∷ ‵ (fdies word l₇) ∷
-          ‵ (fat fullShare word l₆ 0 (vint w64 (length ys))) ∷ ‵ (fdies word l₆) ∷ Passed))
+          (‵ (fat fullShare word l₈ 0 (vint w64 (t .i))) ∷ ‵ (fdies word l₈) ∷ ‵ (fat fullShare S′.mir l₇ 0 (t .u)) ∷ ‵ (fdies S′.mir l₇) ∷ ‵ (fat fullShare word l₆ 0 (vint w64 c)) ∷ ‵ (fdies word l₆) ∷
+          ‵ (fat fullShare word l₅ 0 (vint w64 (length ys))) ∷ ‵ (fdies word l₅) ∷ Passed))
 
       -- at the start of a turn
       abbrev At : Here c → List (Item 𝓤)
-      At t = Held t (‵ (froom R′.mir l₁₃ 0) ∷ ‵ (fdies R′.mir l₁₃) ∷ ‵ (froom tyPtr l₁₂ 0) ∷ ‵ (fdies tyPtr l₁₂) ∷ ‵ (froom word l₁₁ 0) ∷ ‵ (fdies word l₁₁) ∷ ‵ (froom tyBool l₁₀ 0) ∷ ‵ (fdies tyBool l₁₀) ∷ [])
+      At t = Held t (‵ (froom R′.mir l₁₂ 0) ∷ ‵ (fdies R′.mir l₁₂) ∷ ‵ (froom tyPtr l₁₁ 0) ∷ ‵ (fdies tyPtr l₁₁) ∷ ‵ (froom word l₁₀ 0) ∷ ‵ (fdies word l₁₀) ∷ ‵ (froom tyBool l₉ 0) ∷ ‵ (fdies tyBool l₉) ∷ [])
 
       -- once i is compared with c
       abbrev Compared : Here c → List (Item 𝓤)
-      Compared t = put 𝓤 H A 9 (‵ (fat fullShare tyBool l₁₀ 0 (vbool (ltb (t .i) c)))) (At t)
+      Compared t = put 𝓤 H A 9 (‵ (fat fullShare tyBool l₉ 0 (vbool (ltb (t .i) c)))) (At t)
 
       abbrev rule : Here c → Rule
       rule t = listAt ys (t .i)
@@ -366,7 +381,7 @@ module _ {M : Type 1} (𝓤 : URA M) (H : Heap 𝓤) (A : Atoms 𝓤) (W : Given
 
       -- once rule i is copied out of the list
       abbrev Copied : Here c → List (Item 𝓤)
-      Copied t = put 𝓤 H A 3 (‵ (fat fullShare R′.mir l₁₃ 0 (mach t))) (put 𝓤 H A 5 (‵ (fat fullShare tyPtr l₁₂ 0 (vptr b (place 104 o (t .i))))) (put 𝓤 H A 7 (‵ (fat fullShare word l₁₁ 0 (vint w64 (t .i * 104)))) (Compared t)))
+      Copied t = put 𝓤 H A 3 (‵ (fat fullShare R′.mir l₁₂ 0 (mach t))) (put 𝓤 H A 5 (‵ (fat fullShare tyPtr l₁₁ 0 (vptr b (place ruleBytes o (t .i))))) (put 𝓤 H A 7 (‵ (fat fullShare word l₁₀ 0 (vint w64 (t .i * ruleBytes)))) (Compared t)))
 
       abbrev Turned : Here c → Out → SProp 𝓤
       Turned t = afterTurn 𝓤 H (Below 𝓤 H A (Nearer c) At t) (afterBlock 𝓤 H (afterSeq 𝓤 H (Wp 𝓤 H C Λ En code-of.t-6 (atReturn 𝓤 H En Post)) (atReturn 𝓤 H En Post)))
@@ -378,13 +393,13 @@ module _ {M : Type 1} (𝓤 : URA M) (H : Heap 𝓤) (A : Atoms 𝓤) (W : Given
       steps : (t : Here c) (less : t .i < c) → Is R.the-row (rule t) (mach t ∷ []) → Sq W (Copied t) (runs C Λ En (behind (behind (behind (behind (behind code-of.turn-1))))) (anyQ (Turned t)))
       unfolding afterTurn
       steps t less isx =
-          use1 W (raw (Step 𝓤 H A mem run .pre (to-step (t .s) (rule t) (t .i) (t .u) (mach t))) ⊛ (‵ Levels ⊛ ‵ Marks)) (step-asked (t .s) (rule t) (t .i) (t .u) (mach t) (t .is) isx (small (t .within)) gn) $ split ! $
+          use1 W (raw (Step 𝓤 H A mem run .pre (to-step (t .s) (rule t) (t .i) (t .u) (mach t))) ⊛ (‵ Levels ⊛ ‵ Marks)) (step-asked (t .s) (rule t) (t .i) (t .u) (mach t) (t .is) isx (small (t .within)) ish) $ split ! $
           calls-at ! fm (Step 𝓤 H A mem run) known-step (to-step (t .s) (rule t) (t .i) (t .u) (mach t))
           (and-then ! (load ! (from ! (stop !)) (look ! 14 refl)) (and-then ! (load ! (from ! (stop !)) (look ! 4 refl)) (and-then ! (load ! (from ! (stop !)) (look ! 12 refl))
           (and-then ! (load ! (from ! (stop !)) (look ! 24 refl)) (and-then ! (load ! (from ! (stop !)) (look ! 22 refl)) (and-then ! (load ! (from ! (stop !)) (look ! 20 refl)) (no-more !))))))) (λ u.
           use1 W (later (some (λ (r : Seen). (Alive′ ⊛ ‵ (S.the-row .own r (u ∷ []))) ⊛ raw (ensured 𝓤 H A step.ended (step.clauses 𝓤 H A mem run) κs′ (step-args (t .s) (rule t) (t .i) (t .u) (mach t)) tt r)))) (id⊢ 𝓤 _) $ await ! tt $ pick ! (λ r.
-          split ! $ move ! (1 ∷ []) $ use1 W (raw (fact 𝓤 (GoesOn (t .s) (rule t) (t .i) n (now levels) (now marks) r))) (step-told (t .s) (rule t) (t .i) (t .u) (mach t) r) $
-          heard ! (GoesOn (t .s) (rule t) (t .i) n (now levels) (now marks) r) (λ on. split ! $ move ! (1 ∷ []) $
+          split ! $ move ! (1 ∷ []) $ use1 W (raw (fact 𝓤 (GoesOn (t .s) (rule t) (t .i) head (now levels) (now marks) r))) (step-told (t .s) (rule t) (t .i) (t .u) (mach t) r) $
+          heard ! (GoesOn (t .s) (rule t) (t .i) head (now levels) (now marks) r) (λ on. split ! $ move ! (1 ∷ []) $
           -- [what is now known; the tokens; the labels; the list's token; the list; the locals]
           peeks ! S.the-row (Is S.the-row) (shows 𝓤 H A S.the-row) r (u ∷ []) (λ is.
           land ! (from ! (stop !)) (store ! 15 refl (LL.lawful S.the-type S′.the-laws 𝓤 H A W .typed r _ is .0)) $
@@ -392,7 +407,7 @@ module _ {M : Type 1} (𝓤 : URA M) (H : Heap 𝓤) (A : Atoms 𝓤) (W : Given
           drop ! $ move ! (1 ∷ []) $ split ! $ move ! (2 ∷ []) $ use3 W (raw (⋆ 𝓤 H A Lent)) lent-back $ forget ! 3 refl $ forget ! 5 refl $ forget ! 7 refl $ forget ! 9 refl $
           again ! (Nearer c) At t (on-to on is) (add-one-dec c (t .i) less)))))
         where
-          on-to : {r : Seen} {u : Val} → GoesOn (t .s) (rule t) (t .i) n (now levels) (now marks) r → Is S.the-row r (u ∷ []) → Here c
+          on-to : {r : Seen} {u : Val} → GoesOn (t .s) (rule t) (t .i) head (now levels) (now marks) r → Is S.the-row r (u ∷ []) → Here c
           on-to {r} {u} on is = record {
             i = t .i + 1;
             within = add-one-le less;
@@ -407,8 +422,8 @@ module _ {M : Type 1} (𝓤 : URA M) (H : Heap 𝓤) (A : Atoms 𝓤) (W : Given
       unfolding afterTurn
       takes t less =
           assigns ! (bin ! (load ! (from ! (stop !)) (look ! 11 refl)) (lit ! tt) (record { fits = place-fits })) (from ! (stop !)) (init ! 7 refl (tt, record { fits = place-fits })) $
-          assigns ! (bin ! (load ! (from ! (fld ! refl (stop !))) (look-in ! 27 (sub ! 0 refl (whole !)))) (load ! (from ! (stop !)) (look ! 7 refl)) tt) (from ! (stop !)) (init ! 5 refl (tt, tt)) $
-          rewrite ! 5 (λ (p′ : ℕ). ‵ (fat fullShare tyPtr l₁₂ 0 (vptr b p′))) (sym (place-is 104 o (t .i))) refl $
+          assigns ! (bin ! (load ! (from ! (fld ! refl (stop !))) (look-in ! 25 (sub ! 0 refl (whole !)))) (load ! (from ! (stop !)) (look ! 7 refl)) tt) (from ! (stop !)) (init ! 5 refl (tt, tt)) $
+          rewrite ! 5 (λ (p′ : ℕ). ‵ (fat fullShare tyPtr l₁₁ 0 (vptr b p′))) (sym (place-is ruleBytes o (t .i))) refl $
           move ! (2 ∷ 1 ∷ []) $
           looks-slice ! tt R.the-row (Is R.the-row) (shows 𝓤 H A R.the-row) (LL.vals R.the-type R′.the-laws) (LL.tells R.the-type R′.the-laws) (LL.copy R.the-type R′.the-copy 𝓤 H A W) ys b o (λ q′.
           elem-out ! R.the-row (Is R.the-row) (shows 𝓤 H A R.the-row) (LL.vals R.the-type R′.the-laws) (LL.tells R.the-type R′.the-laws) q′ ys (t .i) (ruleAt [] 0) b o there (λ isx.
@@ -419,30 +434,30 @@ module _ {M : Type 1} (𝓤 : URA M) (H : Heap 𝓤) (A : Atoms 𝓤) (W : Given
           there : t .i < length ys
           there = lt-of-lt-of-le less (count .room)
 
-          place-fits : t .i * 104 < 2 ^ 64
+          place-fits : t .i * ruleBytes < 2 ^ 64
           place-fits = let l = there in let f = fits .1 in omega arith
 
       -- every rule is looked at, and `answer` is called
       ends : (t : Here c) → c ≤ t .i → Sq W (Compared t) (runs C Λ En code-of.t-6 (atRet En Post))
       ends t over =
-          use1 W (raw (Last 𝓤 H A mem run .pre (to-last (t .s) (length ys) (t .u))) ⊛ (‵ Levels ⊛ ‵ Marks)) (last-asked (t .s) (length ys) (t .u) (t .is) (fits .0) gm gn) $ split ! $
+          use1 W (raw (Last 𝓤 H A mem run .pre (to-last (t .s) (length ys) (t .u))) ⊛ (‵ Levels ⊛ ‵ Marks)) (last-asked (t .s) (length ys) (t .u) (t .is) (fits .0) ish) $ split ! $
           calls-at ! fm (Last 𝓤 H A mem run) known-last (to-last (t .s) (length ys) (t .u))
-          (and-then ! (load ! (from ! (stop !)) (look ! 14 refl)) (and-then ! (load ! (from ! (stop !)) (look ! 18 refl)) (and-then ! (load ! (from ! (stop !)) (look ! 26 refl))
-          (and-then ! (load ! (from ! (stop !)) (look ! 24 refl)) (and-then ! (load ! (from ! (stop !)) (look ! 22 refl)) (and-then ! (load ! (from ! (stop !)) (look ! 20 refl)) (no-more !))))))) (λ u.
+          (and-then ! (load ! (from ! (stop !)) (look ! 14 refl)) (and-then ! (load ! (from ! (stop !)) (look ! 18 refl)) (and-then ! (load ! (from ! (stop !)) (look ! 24 refl))
+          (and-then ! (load ! (from ! (stop !)) (look ! 22 refl)) (and-then ! (load ! (from ! (stop !)) (look ! 20 refl)) (no-more !)))))) (λ u.
           use1 W (later (some (λ (r : Checked). (Alive′ ⊛ ‵ (K.the-row .own r (u ∷ []))) ⊛ raw (ensured 𝓤 H A last.ended (last.clauses 𝓤 H A mem run) κs′ (last-args (t .s) (length ys) (t .u)) tt r)))) (id⊢ 𝓤 _) $ await ! tt $ pick ! (λ r.
-          split ! $ move ! (1 ∷ []) $ use1 W (raw (fact 𝓤 (Concludes (t .s) (length ys) m n (now levels) (now marks) (said r)))) (last-told (t .s) (length ys) (t .u) r) $
-          heard ! (Concludes (t .s) (length ys) m n (now levels) (now marks) (said r)) (λ e. split ! $ move ! (1 ∷ []) $
+          split ! $ move ! (1 ∷ []) $ use1 W (raw (fact 𝓤 (Concludes (t .s) (length ys) head (now levels) (now marks) (saidChecked r)))) (last-told (t .s) (length ys) (t .u) r) $
+          heard ! (Concludes (t .s) (length ys) head (now levels) (now marks) (saidChecked r)) (λ e. split ! $ move ! (1 ∷ []) $
           -- [the answer; the tokens; the labels; the list's token; the list; the locals]
           peeks ! K.the-row (Is K.the-row) (shows 𝓤 H A K.the-row) r (u ∷ []) (λ is.
-          land ! (from ! (stop !)) (init ! 31 refl (EL.lawful K.the-type K′.the-laws 𝓤 H A W tt .typed r _ is .0)) $ returns ! (look ! 31 refl) $
-          forget ! 11 refl $ forget ! 13 refl $ forget ! 15 refl $ forget ! 17 refl $ forget ! 19 refl $ forget ! 21 refl $ forget ! 23 refl $ forget ! 25 refl $ forget ! 27 refl $ forget ! 29 refl $ forget ! 31 refl $
-          move ! (31 ∷ 32 ∷ []) $ free1 ! $ move ! (29 ∷ 30 ∷ []) $ free1 ! $ move ! (27 ∷ 28 ∷ []) $ free1 ! $ move ! (25 ∷ 26 ∷ []) $ free1 ! $ move ! (23 ∷ 24 ∷ []) $ free1 ! $ move ! (21 ∷ 22 ∷ []) $ free1 ! $
+          land ! (from ! (stop !)) (init ! 29 refl (EL.lawful K.the-type K′.the-laws 𝓤 H A W tt .typed r _ is .0)) $ returns ! (look ! 29 refl) $
+          forget ! 11 refl $ forget ! 13 refl $ forget ! 15 refl $ forget ! 17 refl $ forget ! 19 refl $ forget ! 21 refl $ forget ! 23 refl $ forget ! 25 refl $ forget ! 27 refl $ forget ! 29 refl $
+          move ! (29 ∷ 30 ∷ []) $ free1 ! $ move ! (27 ∷ 28 ∷ []) $ free1 ! $ move ! (25 ∷ 26 ∷ []) $ free1 ! $ move ! (23 ∷ 24 ∷ []) $ free1 ! $ move ! (21 ∷ 22 ∷ []) $ free1 ! $
           move ! (19 ∷ 20 ∷ []) $ free1 ! $ move ! (17 ∷ 18 ∷ []) $ free1 ! $ move ! (15 ∷ 16 ∷ []) $ free1 ! $ move ! (13 ∷ 14 ∷ []) $ free1 ! $ move ! (11 ∷ 12 ∷ []) $ free1 ! $ move ! (9 ∷ 10 ∷ []) $ free1 ! $
           move ! (7 ∷ 8 ∷ []) $ free1 ! $ move ! (5 ∷ 6 ∷ []) $ free1 ! $ free0 ! $
           move ! (3 ∷ 1 ∷ []) $ join ! $ keep ! (1 ∷ 0 ∷ []) $ by ! (exits r u (e .says ys refl count all))))))
         where
-          all : Known (listAt ys) n (now levels) (now marks) c (t .s)
-          all = subst (λ k. Known (listAt ys) n (now levels) (now marks) k (t .s)) (le-antisymm (t .within) over) (t .known)
+          all : SeenSoFar head (listAt ys) (now levels) (now marks) c (t .s)
+          all = subst (λ k. SeenSoFar head (listAt ys) (now levels) (now marks) k (t .s)) (le-antisymm (t .within) over) (t .known)
 
       turns : (t : Here c) → Sq W (At t) (runs C Λ En code-of.turn-1 (anyQ (Turned t)))
       unfolding afterTurn
@@ -455,14 +470,14 @@ module _ {M : Type 1} (𝓤 : URA M) (H : Heap 𝓤) (A : Atoms 𝓤) (W : Given
     -- up to the loop: how many rules are looked at, and that nothing is known
     begins : Sq W (Fresh) (runs C Λ En code-of.t-1 (atRet En Post))
     begins =
-        assigns ! (of-opd ! (load ! (from ! (fld ! refl (stop !))) (look-in ! 24 (sub ! 1 refl (whole !))))) (from ! (stop !)) (init ! 14 refl (tt, record { fits = fits .0 })) $
-        use0 W (raw (Listed 𝓤 H A mem run .pre (to-listed (length ys)))) (listed-asked (length ys) (fits .0) gm gn) $
+        assigns ! (of-opd ! (load ! (from ! (fld ! refl (stop !))) (look-in ! 22 (sub ! 1 refl (whole !))))) (from ! (stop !)) (init ! 14 refl (tt, record { fits = fits .0 })) $
+        use0 W (raw (Listed 𝓤 H A mem run .pre (to-listed (length ys)))) (listed-asked (length ys) (fits .0) ish) $
         calls-at ! fm (Listed 𝓤 H A mem run) known-listed (to-listed (length ys))
-        (and-then ! (load ! (from ! (stop !)) (look ! 15 refl)) (and-then ! (load ! (from ! (stop !)) (look ! 23 refl)) (and-then ! (load ! (from ! (stop !)) (look ! 21 refl)) (no-more !)))) (λ v.
+        (and-then ! (load ! (from ! (stop !)) (look ! 15 refl)) (and-then ! (load ! (from ! (stop !)) (look ! 21 refl)) (no-more !))) (λ v.
         use1 W (later (some (λ (c : ℕ). (‵ ftrue ⊛ ‵ (usize .own c (v ∷ []))) ⊛ raw (ensured 𝓤 H A listed.ended (listed.clauses 𝓤 H A mem run) tt (listed-args (length ys)) tt c)))) (id⊢ 𝓤 _) $ await ! tt $ pick ! (λ c.
-        split ! $ move ! (1 ∷ []) $ use1 W (raw (fact 𝓤 (Count (length ys) m n c))) (listed-told (length ys) c) $ heard ! (Count (length ys) m n c) (λ count. split ! $ drop ! $
+        split ! $ move ! (1 ∷ []) $ use1 W (raw (fact 𝓤 (Count (length ys) head c))) (listed-told (length ys) c) $ heard ! (Count (length ys) head c) (λ count. split ! $ drop ! $
         peeks ! usize (Is usize) (shows 𝓤 H A usize) c (v ∷ []) (λ isc.
-        land ! (from ! (stop !)) (init ! 13 refl (uint-lawful 𝓤 H A W w64 .typed c _ isc .0)) $ drop ! $ rewrite ! 12 (λ (w : Val). ‵ (fat fullShare word l₇ 0 w)) (ap only (isc .0)) refl $
+        land ! (from ! (stop !)) (init ! 13 refl (uint-lawful 𝓤 H A W w64 .typed c _ isc .0)) $ drop ! $ rewrite ! 12 (λ (w : Val). ‵ (fat fullShare word l₆ 0 w)) (ap only (isc .0)) refl $
         use0 W (raw (Start 𝓤 H A mem run .pre to-start)) start-asked $
         calls-at ! fm (Start 𝓤 H A mem run) known-start to-start (no-more !) (λ u.
         use1 W (later (some (λ (r : Seen). (‵ ftrue ⊛ ‵ (S.the-row .own r (u ∷ []))) ⊛ raw (ensured 𝓤 H A start.ended (start.clauses 𝓤 H A mem run) tt tt tt r)))) (id⊢ 𝓤 _) $ await ! tt $ pick ! (λ r.
@@ -470,33 +485,50 @@ module _ {M : Type 1} (𝓤 : URA M) (H : Heap 𝓤) (A : Atoms 𝓤) (W : Given
         peeks ! S.the-row (Is S.the-row) (shows 𝓤 H A S.the-row) r (u ∷ []) (λ is.
         land ! (from ! (stop !)) (init ! 11 refl (LL.lawful S.the-type S′.the-laws 𝓤 H A W .typed r _ is .0)) $ drop ! $
         assigns ! (of-opd ! (lit ! tt)) (from ! (stop !)) (init ! 8 refl (tt, record { fits = lit< tt })) $
-        move ! (28 ∷ 29 ∷ []) $ use2 W (raw (⋆ 𝓤 H A Lent) ⊛ (‵ (flft κ₀ q₀) ⊛ ‵ Rules)) opens $ split ! $ move ! (1 ∷ []) $ split ! $ move ! (2 ∷ []) $
-        first ! $ blocks ! $ loops ! 𝓣 (Nearer c) (Nearer-wf c) (At c count) (turns c count) (record { i = 0; within = zero-le; s = r; u = u; is = is; known = known .start (listAt ys) n (now levels) (now marks) })))))))))
+        move ! (26 ∷ 27 ∷ []) $ use2 W (raw (⋆ 𝓤 H A Lent) ⊛ (‵ (flft κ₀ q₀) ⊛ ‵ Rules)) opens $ split ! $ move ! (1 ∷ []) $ split ! $ move ! (2 ∷ []) $
+        first ! $ blocks ! $ loops ! 𝓣 (Nearer c) (Nearer-wf c) (At c count) (turns c count) (record { i = 0; within = zero-le; s = r; u = u; is = is; known = known .start head (listAt ys) (now levels) (now marks) })))))))))
 
-  walk : (𝓣 : Tables 𝓤 H) → Triple 𝓤 (𝓣 .C listed-def.name) (Listed 𝓤 H A mem run) → Triple 𝓤 (𝓣 .C start-def.name) (Start 𝓤 H A mem run) → Triple 𝓤 (𝓣 .C step-def.name) (Step 𝓤 H A mem run) → Triple 𝓤 (𝓣 .C last-def.name) (Last 𝓤 H A mem run)
-      → Is (ShrSlice (named 0) κ₀ R.the-row) rules (slice-vals rules) → m < 2 ^ 64 → n < 2 ^ 64 → Is (ShrSlice (named 1) κ₁ u64) levels (slice-vals levels) → Is (ShrSlice (named 2) κ₂ u64) marks (slice-vals marks)
-      → ent 𝓤 (onEntry 𝓤 H A this.signature κs qs args at) (WpFn 𝓤 H (𝓣 .C) (𝓣 .Λ) code.function (sliceVal (ptr rules) (length ys) ∷ vint w64 m ∷ vint w64 n ∷ sliceVal (ptr levels) (length (now levels)) ∷ sliceVal (ptr marks) (length (now marks)) ∷ []) Post)
-  walk 𝓣 known-listed known-start known-step known-last isr gm gn isl ism =
+  walk : (𝓣 : Tables 𝓤 H) → Triple 𝓤 (𝓣 .C listed-def.name) (Listed 𝓤 H A mem run) → Triple 𝓤 (𝓣 .C start-def.name) (Start 𝓤 H A mem run)
+      → Triple 𝓤 (𝓣 .C step-def.name) (Step 𝓤 H A mem run) → Triple 𝓤 (𝓣 .C last-def.name) (Last 𝓤 H A mem run)
+      → Is (ShrSlice (named 0) κ₀ R.the-row) rules (slice-vals rules) → Is D.the-row head (hv ∷ [])
+      → Is (ShrSlice (named 1) κ₁ u64) levels (slice-vals levels) → Is (ShrSlice (named 2) κ₂ u64) marks (slice-vals marks)
+      → ent 𝓤 (onEntry 𝓤 H A this.signature κs qs args at) (WpFn 𝓤 H (𝓣 .C) (𝓣 .Λ) code.function
+      (sliceVal (ptr rules) (length ys) ∷ hv ∷ sliceVal (ptr levels) (length (now levels)) ∷ sliceVal (ptr marks) (length (now marks)) ∷ []) Post)
+  walk 𝓣 known-listed known-start known-step known-last isr ish isl ism =
       qed W (Alive ∷ ‵ (owns (typesAt (this.signature .params) κs) args at) ∷ []) ∵ enter ! (𝓣 .C) (𝓣 .Λ) code.function _ _ $
-      alloc1 ! (λ l₀. alloc1 ! (λ l₁. alloc1 ! (λ l₂. alloc1 ! (λ l₃. alloc1 ! (λ l₄. alloc1 ! (λ l₅. alloc1 ! (λ l₆. alloc1 ! (λ l₇. alloc1 ! (λ l₈. alloc1 ! (λ l₉. alloc1 ! (λ l₁₀. alloc1 ! (λ l₁₁. alloc1 ! (λ l₁₂. alloc1 ! (λ l₁₃. alloc0 ! $ params1 ! $
-      pass1 ! (init ! 24 refl (shr-slice-lawful 𝓤 H A W (named 0) κ₀ R.the-row .typed rules _ isr .0)) $ pass1 ! (init ! 22 refl (tt, record { fits = gm })) $ pass1 ! (init ! 20 refl (tt, record { fits = gn })) $
-      pass1 ! (init ! 18 refl (shr-slice-lawful 𝓤 H A W (named 1) κ₁ u64 .typed levels _ isl .0)) $ pass1 ! (init ! 16 refl (shr-slice-lawful 𝓤 H A W (named 2) κ₂ u64 .typed marks _ ism .0)) $ pass0 ! $
-      begins 𝓣 known-listed known-start known-step known-last (isr .0 .1) gm gn l₀ l₁ l₂ l₃ l₄ l₅ l₆ l₇ l₈ l₉ l₁₀ l₁₁ l₁₂ l₁₃))))))))))))))
+      alloc1 ! (λ l₀. alloc1 ! (λ l₁. alloc1 ! (λ l₂. alloc1 ! (λ l₃. alloc1 ! (λ l₄. alloc1 ! (λ l₅. alloc1 ! (λ l₆. alloc1 ! (λ l₇. alloc1 ! (λ l₈.
+      alloc1 ! (λ l₉. alloc1 ! (λ l₁₀. alloc1 ! (λ l₁₁. alloc1 ! (λ l₁₂. alloc0 ! $ params1 ! $
+      pass1 ! (init ! 22 refl (shr-slice-lawful 𝓤 H A W (named 0) κ₀ R.the-row .typed rules _ isr .0)) $
+      pass1 ! (init ! 20 refl (LL.lawful D.the-type D′.the-laws 𝓤 H A W .typed head _ ish .0)) $
+      pass1 ! (init ! 18 refl (shr-slice-lawful 𝓤 H A W (named 1) κ₁ u64 .typed levels _ isl .0)) $
+      pass1 ! (init ! 16 refl (shr-slice-lawful 𝓤 H A W (named 2) κ₂ u64 .typed marks _ ism .0)) $ pass0 ! $
+      begins 𝓣 known-listed known-start known-step known-last (isr .0 .1) ish l₀ l₁ l₂ l₃ l₄ l₅ l₆ l₇ l₈ l₉ l₁₀ l₁₁ l₁₂)))))))))))))
 
 module _ {M : Type 1} (𝓤 : URA M) (H : Heap 𝓤) (A : Atoms 𝓤) (W : Given 𝓤 H A) (mem : Memory → SProp 𝓤) (run : Routine → Fun 𝓤) (𝓣 : Tables 𝓤 H)
     (known-listed : Triple 𝓤 (𝓣 .C listed-def.name) (Listed 𝓤 H A mem run)) (known-start : Triple 𝓤 (𝓣 .C start-def.name) (Start 𝓤 H A mem run))
     (known-step : Triple 𝓤 (𝓣 .C step-def.name) (Step 𝓤 H A mem run)) (known-last : Triple 𝓤 (𝓣 .C last-def.name) (Last 𝓤 H A mem run)) where
   check-list-walks : Walks 𝓤 H A this.ended stayed (WpFn 𝓤 H (𝓣 .C) (𝓣 .Λ) code.function) (this.clauses 𝓤 H A mem run)
   check-list-walks = walked 𝓤 H A this.ended stayed (this.clauses 𝓤 H A mem run) (WpFn 𝓤 H (𝓣 .C) (𝓣 .Λ) code.function)
-      (λ κs. (slice-vals, (uint-vals w64, (uint-vals w64, (slice-vals, (slice-vals, tt))))))
-      (λ κs. (shr-slice-tells (named 0) (κs .0) R.the-row, (uint-tells w64, (uint-tells w64, (shr-slice-tells (named 1) (κs .1 .0) u64, (shr-slice-tells (named 2) (κs .1 .1 .0) u64, tt))))))
+      (λ κs. (slice-vals, (LL.vals D.the-type D′.the-laws, (slice-vals, (slice-vals, tt)))))
+      (λ κs. (
+        shr-slice-tells (named 0) (κs .0) R.the-row,
+        (
+          LL.tells D.the-type D′.the-laws,
+          (shr-slice-tells (named 1) (κs .1 .0) u64, (shr-slice-tells (named 2) (κs .1 .1 .0) u64, tt)),
+        ),
+      ))
       (λ κs qs bounds a g are. via 𝓤 _ (fst∗ 𝓤 _ (emp 𝓤))
-      (walk 𝓤 H A W mem run (κs .0) (κs .1 .0) (κs .1 .1 .0) (qs .0) (qs .1 .0) (qs .1 .1 .0) (a .0) (a .1 .0) (a .1 .1 .0) (a .1 .1 .1 .0) (a .1 .1 .1 .1 .0) 𝓣 known-listed known-start known-step known-last
-      (are .0) (are .1 .0 .1) (are .1 .1 .0 .1) (are .1 .1 .1 .0) (are .1 .1 .1 .1 .0)))
+      (walk 𝓤 H A W mem run (κs .0) (κs .1 .0) (κs .1 .1 .0) (qs .0) (qs .1 .0) (qs .1 .1 .0) (a .0) (a .1 .0) (a .1 .1 .0) (a .1 .1 .1 .0)
+      𝓣 known-listed known-start known-step known-last (are .0) (are .1 .0) (are .1 .1 .0) (are .1 .1 .1 .0)))
 
   check-list-meets : Meets 𝓤 H A this.signature (WpFn 𝓤 H (𝓣 .C) (𝓣 .Λ) code.function) (this.spec 𝓤 H A mem run)
-  check-list-meets = walk-meets 𝓤 H A this.ended stayed W
-      (goes-dropped 𝓤 H A W 3 listed-rules yes (λ κs x f. refl), (goes-dropped 𝓤 H A W 3 number yes (λ κs x f. refl), (goes-dropped 𝓤 H A W 3 number yes (λ κs x f. refl), (goes-dropped 𝓤 H A W 3 lent-levels yes (λ κs x f. refl), (goes-dropped 𝓤 H A W 3 lent-marks yes (λ κs x f. refl), tt)))))
+  check-list-meets = walk-meets 𝓤 H A this.ended stayed W (
+    goes-dropped 𝓤 H A W 3 listed-rules yes (λ κs x f. refl),
+    (
+      goes-dropped 𝓤 H A W 3 passed-head yes (λ κs x f. refl),
+      (goes-dropped 𝓤 H A W 3 lent-levels yes (λ κs x f. refl), (goes-dropped 𝓤 H A W 3 lent-marks yes (λ κs x f. refl), tt)),
+    ),
+  )
       (this.clauses 𝓤 H A mem run) (WpFn 𝓤 H (𝓣 .C) (𝓣 .Λ) code.function) (WpFn-mono 𝓤 H (W .laws) 𝓣 code.function) check-list-walks
 
 pub check-list-spec : {M : Type 1} → stated.statement M

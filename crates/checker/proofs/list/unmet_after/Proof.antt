@@ -1,6 +1,5 @@
 -- `checker::list::unmet_after` meets its contract.
 -- Assumes nothing.
-use Rattle.laws.proofs.Tells.{told-no, told-yes}
 use Rattle.checker.proofs.Walking.{sought-earlier, sought-now, sought-none}
 use borrow.Author.Needs.{needs}
 use Rattle.checker.proofs.list.unmet_after.Statement.{statement}
@@ -13,10 +12,10 @@ met-requires : tie.Need-met-requires
 met-requires c κs = search needs
 
 returns-2 : tie.Need-returns-2
-returns-2 c = search (sought-now, told-no, needs)
+returns-2 c = search (sought-now, needs)
 
 returns-3 : tie.Need-returns-3
-returns-3 c = sought-none (c .before .before .if1 .left) (told-yes (c .before .met .ensures) (c .if2 .left))
+returns-3 c = search (sought-none, needs)
 
 pub unmet-after-spec : {M : Type 1} → statement M
 unmet-after-spec = tie.close (tie.spec returns met-requires returns-2 returns-3)

@@ -2,7 +2,7 @@
 use Prim.Native.Nat.{_-_}
 use lib.ListN.{length}
 use borrow.Author.Needs.{needs}
-use Rattle.lines.proofs.Told.{Passed, passed-none, passed-bad, passed-fits, passed-count, passed-order, passed-last, passed-next, passed-less, passed-more}
+use Rattle.lines.proofs.Passed.{Passed, passed-none, passed-bad, passed-fits, passed-count, passed-order, passed-last, passed-next, passed-less, passed-more}
 use Rattle.lines.proofs.left.read_left.Statement.{statement}
 use Rattle.lines.proofs.left.read_left.Tie as tie
 
@@ -36,8 +36,8 @@ add-names c = search (passed-count, needs)
 byte-at-requires : tie.Need-byte-at-requires Inv-loop μ-loop
 byte-at-requires c κs = search needs
 
-sub-t10 : tie.Need-sub-t10 Inv-loop μ-loop
-sub-t10 c = search (passed-order, needs)
+sub-len : tie.Need-sub-len Inv-loop μ-loop
+sub-len c = search (passed-order, needs)
 
 returns-2 : tie.Need-returns-2 Inv-loop μ-loop
 returns-2 c = search (passed-last, needs)
@@ -65,7 +65,7 @@ read-left-spec =
     add-end
     add-names
     byte-at-requires
-    sub-t10
+    sub-len
     returns-2
     add-place
     loop-less

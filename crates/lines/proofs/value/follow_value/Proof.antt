@@ -7,8 +7,8 @@ use Rattle.lines.proofs.value.follow_value.Tie as tie
 read-left-requires : tie.Need-read-left-requires
 read-left-requires c κs = search needs
 
-enum-known-names : tie.Need-enum-known-names
-enum-known-names c = search needs
+enum-known-left : tie.Need-enum-known-left
+enum-known-left c = search needs
 
 enum-told : tie.Need-enum-told
 enum-told c = search needs
@@ -25,4 +25,4 @@ returns-2 c = search (follow-found, needs)
 pub follow-value-spec : {M : Type 1} → statement M
 follow-value-spec =
     tie.close
-    (tie.spec read-left-requires enum-known-names enum-told returns with-right-requires returns-2)
+    (tie.spec read-left-requires enum-known-left enum-told returns with-right-requires returns-2)

@@ -19,8 +19,8 @@ add-read-class c = search (colon-next, needs)
 read-class-requires : tie.Need-read-class-requires
 read-class-requires c κs = search needs
 
-enum-known-class : tie.Need-enum-known-class
-enum-known-class c = search needs
+enum-known-token : tie.Need-enum-known-token
+enum-known-token c = search needs
 
 enum-told : tie.Need-enum-told
 enum-told c = search needs
@@ -28,11 +28,11 @@ enum-told c = search needs
 returns-2 : tie.Need-returns-2
 returns-2 c = search (class-bad, needs)
 
-add-t11 : tie.Need-add-t11
-add-t11 c = search needs
+add-len : tie.Need-add-len
+add-len c = search needs
 
-add-t12 : tie.Need-add-t12
-add-t12 c = search (class-len, needs)
+add-len-2 : tie.Need-add-len-2
+add-len-2 c = search (class-len, needs)
 
 returns-3 : tie.Need-returns-3
 returns-3 c = search (class-behind, needs)
@@ -46,9 +46,9 @@ with-class-spec =
     returns
     add-read-class
     read-class-requires
-    enum-known-class
+    enum-known-token
     enum-told
     returns-2
-    add-t11
-    add-t12
+    add-len
+    add-len-2
     returns-3)

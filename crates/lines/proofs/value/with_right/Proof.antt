@@ -19,8 +19,8 @@ add-read-name c = search (colon-next, needs)
 read-name-requires : tie.Need-read-name-requires
 read-name-requires c κs = search needs
 
-enum-known-k : tie.Need-enum-known-k
-enum-known-k c = search needs
+enum-known-n : tie.Need-enum-known-n
+enum-known-n c = search needs
 
 enum-told : tie.Need-enum-told
 enum-told c = search needs
@@ -28,11 +28,11 @@ enum-told c = search needs
 returns-2 : tie.Need-returns-2
 returns-2 c = search (right-bad, needs)
 
-add-t10 : tie.Need-add-t10
-add-t10 c = search needs
+add-len : tie.Need-add-len
+add-len c = search needs
 
-add-t12 : tie.Need-add-t12
-add-t12 c = search (right-len, needs)
+add-len-2 : tie.Need-add-len-2
+add-len-2 c = search (right-len, needs)
 
 returns-3 : tie.Need-returns-3
 returns-3 c = search (right-behind, needs)
@@ -46,9 +46,9 @@ with-right-spec =
     returns
     add-read-name
     read-name-requires
-    enum-known-k
+    enum-known-n
     enum-told
     returns-2
-    add-t10
-    add-t12
+    add-len
+    add-len-2
     returns-3)

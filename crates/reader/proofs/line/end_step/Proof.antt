@@ -4,8 +4,8 @@ use borrow.Author.Needs.{needs}
 use Rattle.reader.proofs.line.end_step.Statement.{statement}
 use Rattle.reader.proofs.line.end_step.Tie as tie
 
-refused-requires : tie.Need-refused-requires
-refused-requires c κs = search needs
+stopped-requires : tie.Need-stopped-requires
+stopped-requires c κs = search needs
 
 returns : tie.Need-returns
 returns c = search (end-wrong, needs)
@@ -16,8 +16,11 @@ sub-if2 c = search (line-inside, needs)
 line-len-requires : tie.Need-line-len-requires
 line-len-requires c κs = search (line-short, needs)
 
-add-t12 : tie.Need-add-t12
-add-t12 c = search needs
+add-refused : tie.Need-add-refused
+add-refused c = search needs
+
+refused-requires : tie.Need-refused-requires
+refused-requires c κs = search needs
 
 returns-2 : tie.Need-returns-2
 returns-2 c = search (end-more, needs)
@@ -28,4 +31,12 @@ returns-3 c = search (end-right, needs)
 pub end-step-spec : {M : Type 1} → statement M
 end-step-spec =
     tie.close
-    (tie.spec refused-requires returns sub-if2 line-len-requires add-t12 returns-2 returns-3)
+    (tie.spec
+    stopped-requires
+    returns
+    sub-if2
+    line-len-requires
+    add-refused
+    refused-requires
+    returns-2
+    returns-3)

@@ -4,8 +4,8 @@ use borrow.Author.Needs.{needs}
 use Rattle.reader.proofs.line.item_step.Statement.{statement}
 use Rattle.reader.proofs.line.item_step.Tie as tie
 
-refused-requires : tie.Need-refused-requires
-refused-requires c κs = search needs
+stopped-requires : tie.Need-stopped-requires
+stopped-requires c κs = search needs
 
 returns : tie.Need-returns
 returns c = search (item-full, needs)
@@ -16,23 +16,14 @@ add-from c = search (item-from, needs)
 add-end : tie.Need-add-end
 add-end c = search (item-end, needs)
 
-sub-find : tie.Need-sub-find
-sub-find c = search needs
-
-part-find-start : tie.Need-part-find-start
-part-find-start c = search needs
-
-part-find-end : tie.Need-part-find-end
-part-find-end c = search (item-within, needs)
-
-find-requires : tie.Need-find-requires
-find-requires c κs = search needs
+find-at-requires : tie.Need-find-at-requires
+find-at-requires c κs = search needs
 
 enum-told : tie.Need-enum-told
 enum-told c = search needs
 
-refused-requires-2 : tie.Need-refused-requires-2
-refused-requires-2 c κs = search needs
+stopped-requires-2 : tie.Need-stopped-requires-2
+stopped-requires-2 c κs = search needs
 
 same-length : tie.Need-same-length
 same-length c = search needs
@@ -62,7 +53,7 @@ next-requires : tie.Need-next-requires
 next-requires c κs = search needs
 
 line-len-requires : tie.Need-line-len-requires
-line-len-requires c κs = line-short (c .before .before .before .before .before .before .before .before .before .before .before .before .before .before .before .before .before .before .before .pre .line)
+line-len-requires c κs = line-short (c .before .before .before .before .before .before .before .before .before .before .before .before .before .before .before .before .before .before .pre .line)
 
 same-length-2 : tie.Need-same-length-2
 same-length-2 c = search needs
@@ -74,16 +65,13 @@ pub item-step-spec : {M : Type 1} → statement M
 item-step-spec =
     tie.close
     (tie.spec
-    refused-requires
+    stopped-requires
     returns
     add-from
     add-end
-    sub-find
-    part-find-start
-    part-find-end
-    find-requires
+    find-at-requires
     enum-told
-    refused-requires-2
+    stopped-requires-2
     same-length
     returns-2
     sub-put

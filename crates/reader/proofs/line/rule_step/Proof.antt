@@ -5,14 +5,14 @@ use borrow.Author.Needs.{needs}
 use Rattle.reader.proofs.line.rule_step.Statement.{statement}
 use Rattle.reader.proofs.line.rule_step.Tie as tie
 
-refused-requires : tie.Need-refused-requires
-refused-requires c κs = search needs
+stopped-requires : tie.Need-stopped-requires
+stopped-requires c κs = search needs
 
 returns : tie.Need-returns
 returns c = search (rule-full, needs)
 
-refused-requires-2 : tie.Need-refused-requires-2
-refused-requires-2 c κs = search needs
+stopped-requires-2 : tie.Need-stopped-requires-2
+stopped-requires-2 c κs = search needs
 
 returns-2 : tie.Need-returns-2
 returns-2 c = search (rule-ninth, needs)
@@ -26,8 +26,8 @@ slice-aggregate-look-up c = search needs
 look-up-requires : tie.Need-look-up-requires
 look-up-requires c κs = search (rule-look, needs)
 
-refused-requires-3 : tie.Need-refused-requires-3
-refused-requires-3 c κs = search needs
+stopped-requires-3 : tie.Need-stopped-requires-3
+stopped-requires-3 c κs = search needs
 
 returns-3 : tie.Need-returns-3
 returns-3 c = search (rule-no-left, needs)
@@ -44,8 +44,8 @@ right-item-requires c κs = search needs
 enum-known-right : tie.Need-enum-known-right
 enum-known-right c = search needs
 
-refused-requires-4 : tie.Need-refused-requires-4
-refused-requires-4 c κs = c .before .before .before .before .before .before .before .before .before .before .before .before .before .before .before .before .before .pre .line .lines
+stopped-requires-4 : tie.Need-stopped-requires-4
+stopped-requires-4 c κs = c .before .before .before .before .before .before .before .before .before .before .before .before .before .before .before .before .before .pre .line .lines
 
 returns-4 : tie.Need-returns-4
 returns-4 c = search (rule-no-right, needs)
@@ -56,17 +56,17 @@ slice-aggregate-rises c = search needs
 rises-requires : tie.Need-rises-requires
 rises-requires c κs = search needs
 
-refused-requires-5 : tie.Need-refused-requires-5
-refused-requires-5 c κs = c .before .before .before .before .before .before .before .before .before .before .before .before .before .before .before .before .before .before .before .before .before .before .pre .line .lines
+stopped-requires-5 : tie.Need-stopped-requires-5
+stopped-requires-5 c κs = c .before .before .before .before .before .before .before .before .before .before .before .before .before .before .before .before .before .before .before .before .before .before .pre .line .lines
 
 returns-5 : tie.Need-returns-5
-returns-5 c = rule-order _ _ _ _ _ _ (c .before .before .before .before .before .before .before .before .before .before .before .before .before .before .before .before .if1 .left) (c .before .before .before .before .before .before .before .before .before .before .before .before .before .before .if2 .left) (c .before .before .before .before .before .before .before .before .before .before .before .before .before .before .before .before .before .before .before .before .before .before .before .pre) refl (c .before .before .before .before .before .before .before .before .before .before .before .look-up .ensures) (c .before .before .before .before .before .before .before .before .before .if3 .left) (c .before .before .before .before .before .before .before .right-item .ensures) (c .before .before .before .before .before .right .given .1) (c .before .before .rises .ensures) (c .refused5 .ensures) (c .before .if4 .taken)
+returns-5 c = rule-order _ _ _ _ _ _ (c .before .before .before .before .before .before .before .before .before .before .before .before .before .before .before .before .if1 .left) (c .before .before .before .before .before .before .before .before .before .before .before .before .before .before .if2 .left) (c .before .before .before .before .before .before .before .before .before .before .before .before .before .before .before .before .before .before .before .before .before .before .before .pre) refl (c .before .before .before .before .before .before .before .before .before .before .before .look-up .ensures) (c .before .before .before .before .before .before .before .before .before .if3 .left) (c .before .before .before .before .before .before .before .right-item .ensures) (c .before .before .before .before .before .right .given .1) (c .before .before .rises .ensures) (c .stopped5 .ensures) (c .before .if4 .taken)
 
 kind-of-requires : tie.Need-kind-of-requires
 kind-of-requires c κs = search needs
 
 put-rule-requires : tie.Need-put-rule-requires
-put-rule-requires c κs = record { rule = c .before .before .before .before .before .before .before .before .before .before .before .before .before .before .before .before .before .if1 .left; room = c .before .before .before .before .before .before .before .before .before .before .before .before .before .before .before .before .before .before .before .before .before .before .before .before .pre .room }
+put-rule-requires c κs = search needs
 
 add-next : tie.Need-add-next
 add-next c = search needs
@@ -87,24 +87,24 @@ pub rule-step-spec : {M : Type 1} → statement M
 rule-step-spec =
     tie.close
     (tie.spec
-    refused-requires
+    stopped-requires
     returns
-    refused-requires-2
+    stopped-requires-2
     returns-2
     add-from
     slice-aggregate-look-up
     look-up-requires
-    refused-requires-3
+    stopped-requires-3
     returns-3
     add-right-item
     add-right-item-2
     right-item-requires
     enum-known-right
-    refused-requires-4
+    stopped-requires-4
     returns-4
     slice-aggregate-rises
     rises-requires
-    refused-requires-5
+    stopped-requires-5
     returns-5
     kind-of-requires
     put-rule-requires

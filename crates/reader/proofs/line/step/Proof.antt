@@ -4,8 +4,8 @@ use borrow.Author.Needs.{needs}
 use Rattle.reader.proofs.line.step.Statement.{statement}
 use Rattle.reader.proofs.line.step.Tie as tie
 
-refused-requires : tie.Need-refused-requires
-refused-requires c κs = search needs
+stopped-requires : tie.Need-stopped-requires
+stopped-requires c κs = search needs
 
 returns : tie.Need-returns
 returns c = search (step-none, needs)
@@ -19,8 +19,8 @@ enum-known-line c = search needs
 enum-told : tie.Need-enum-told
 enum-told c = search needs
 
-refused-requires-2 : tie.Need-refused-requires-2
-refused-requires-2 c κs = search needs
+stopped-requires-2 : tie.Need-stopped-requires-2
+stopped-requires-2 c κs = search needs
 
 returns-2 : tie.Need-returns-2
 returns-2 c = search (step-syntax, needs)
@@ -31,8 +31,8 @@ key-number-requires c κs = search needs
 may-follow-requires : tie.Need-may-follow-requires
 may-follow-requires c κs = search needs
 
-refused-requires-3 : tie.Need-refused-requires-3
-refused-requires-3 c κs = search needs
+stopped-requires-3 : tie.Need-stopped-requires-3
+stopped-requires-3 c κs = search needs
 
 returns-3 : tie.Need-returns-3
 returns-3 c = search (step-order, needs)
@@ -119,16 +119,16 @@ pub step-spec : {M : Type 1} → statement M
 step-spec =
     tie.close
     (tie.spec
-    refused-requires
+    stopped-requires
     returns
     read-line-requires
     enum-known-line
     enum-told
-    refused-requires-2
+    stopped-requires-2
     returns-2
     key-number-requires
     may-follow-requires
-    refused-requires-3
+    stopped-requires-3
     returns-3
     enum-told-2
     next-requires

@@ -9,29 +9,30 @@ use native.Mathlib.Decide.{decLt}
 use native.Mathlib.Omega.{arith}
 use borrow.Author.Count.{below-more}
 use lib.ListN.{length, drop, length-replicate}
+use Rattle.laws.proofs.Buffers.{zeros-at}
+use Rattle.refusals.specs.Sizes.{mostItems, mostRules}
 use Rattle.items.specs.Names.{nameRoom, isName}
-use Rattle.refusals.specs.Sizes.{mostItems}
 use Rattle.rules.specs.Table.{ruleWords, ruleAt}
+use Rattle.rules.specs.declared.Head.{Head}
 use Rattle.rules.specs.declared.Rule.{Rule}
+use Rattle.rules.proofs.Put.{ruled-length, ruled-here, ruled-before}
 use Rattle.accepts.specs.Accepted.{Standing, TableAccepted}
-use Rattle.refusals.specs.Sizes.{mostRules}
+use Rattle.accepts.specs.Tables.{Tables}
 use Rattle.tokens.proofs.Tokens.{name-is-name}
 use Rattle.lines.specs.declared.Line.{Line}
 use Rattle.reader.specs.declared.ReadBook.{ReadBook}
-use Rattle.reader.specs.Lines.{State, start, Result, itemName, withItem, ruleOf, withRule}
+use Rattle.reader.specs.Lines.{State, start, Result, headOf, itemName, withItem, ruleOf, withRule}
 use Rattle.reader.specs.Reading.{readText}
-use Rattle.accepts.specs.Tables.{Tables}
-use Rattle.rulebook.proofs.LineCases.{FormRead, ItemRead, RuleRead, Cases, formNext, read-says}
-use Rattle.laws.proofs.Buffers.{zeros-at}
-use Rattle.rulebook.proofs.Entries.{Spare, added-length, added-spare, added-ok, ruled-length, ruled-here, ruled-before, places-length}
-use Rattle.rulebook.proofs.Numbers.{left-few, rule-accepted}
+use Rattle.reader.proofs.LineCases.{FormRead, ItemRead, RuleRead, Cases, formNext, read-says}
+use Rattle.reader.proofs.Entries.{Spare, added-length, added-spare, added-ok, places-length}
+use Rattle.reader.proofs.Numbers.{left-few, rule-accepted}
 
 -- What holds of every state that is reached: the tables have their whole room and are right, no byte behind the items is used, and no rule stands
 -- behind the row of the last key.
 pub record Right (st : State) : Type 0 where
   pub names-room : length (st .names) ≡ mostItems * nameRoom
   pub words-room : length (st .words) ≡ mostRules * ruleWords
-  pub tables : Tables (st .names) (st .counts .items) (st .words) (st .counts .rules)
+  pub tables : Tables (headOf (st .counts)) (st .names) (st .words)
   pub spare : Spare (st .names) (st .counts .items)
   pub kinds : (r : ℕ) → r < st .counts .rules → 3 + ruleAt (st .words) r .kind ≤ st .counts .after
 
@@ -43,8 +44,8 @@ no-rules {st} r h = go (decLt 0 (st .counts .rules))
     go (yes s) = absurd (omega (arith, r .kinds 0 s))
     go (no s) = omega arith
 
-no-table : (w : List ℕ) (m n : ℕ) → m ≡ 0 → n ≤ mostItems → TableAccepted w m n
-no-table w m n e h = record {
+no-table : (w : List ℕ) (b : Head) → b .rules ≡ 0 → b .items ≤ mostItems → TableAccepted b w
+no-table w b e h = record {
   room = omega arith;
   accepted = record { items = h; rules = omega arith; each = λ r s. absurd (omega arith) };
 }
@@ -55,7 +56,7 @@ right-start = record {
   words-room = length-replicate {A = ℕ} (mostRules * ruleWords) 0;
   tables = record {
     items = record { size = zero-le; room = zero-le; names = λ i h. absurd (omega arith); distinct = λ i h. absurd (omega arith) };
-    rules = no-table _ 0 0 refl zero-le;
+    rules = no-table _ _ refl zero-le;
   };
   spare = record { zeros = λ i h. zeros-at (mostItems * nameRoom) i };
   kinds = λ r h. absurd (omega arith);
@@ -87,8 +88,7 @@ module _ (st : State) (l : List ℕ) (right : Right st) (x : Line) where
         items =
             added-ok (st .names) (st .counts .items) (itemName l x) item-name item-room (right .spare) (right .tables .items) (h .few)
             (h .new);
-        rules =
-            no-table (st .words) (st .counts .rules) (st .counts .items + 1) (no-rules right (h .row .rise)) (omega (arith, h .few));
+        rules = no-table (st .words) _ (no-rules right (h .row .rise)) (omega (arith, h .few));
       };
       spare = added-spare (st .names) (st .counts .items) (itemName l x) item-name item-room (right .spare);
       kinds = λ r s. absurd (omega (arith, no-rules right (h .row .rise)));
@@ -115,7 +115,7 @@ module _ (st : State) (l : List ℕ) (right : Right st) (x : Line) where
     next-kind r s = omega (arith, right .kinds r s, row)
 
     before-stands : (r : ℕ) → r < st .counts .rules
-        → Standing (ruleAt (withRule st l x .words)) (st .counts .rules + 1) (st .counts .items) r
+        → Standing (headOf (withRule st l x .counts)) (ruleAt (withRule st l x .words)) r
     before-stands r s = record {
       accepted = rw (rule-before r s) (right .tables .rules .accepted .each r s .accepted);
       order = λ g. rw (rule-before r s) (next (decLt (suc r) (st .counts .rules)));
@@ -127,7 +127,7 @@ module _ (st : State) (l : List ℕ) (right : Right st) (x : Line) where
             let last : suc r ≡ st .counts .rules = omega arith in
             rw (last, rule-here) (next-kind r s)
 
-    here-stands : Standing (ruleAt (withRule st l x .words)) (st .counts .rules + 1) (st .counts .items) (st .counts .rules)
+    here-stands : Standing (headOf (withRule st l x .counts)) (ruleAt (withRule st l x .words)) (st .counts .rules)
     here-stands = record { accepted = rw rule-here (rule-accepted st l x h); order = λ g. absurd (omega arith) }
 
     kind-before : (r : ℕ) → r < st .counts .rules → 3 + ruleAt (withRule st l x .words) r .kind ≤ 3 + rule .kind
@@ -158,21 +158,21 @@ module _ (st : State) (l : List ℕ) (right : Right st) (x : Line) where
 
 -- An answer with its tables: a book's tables are right.
 abbrev pub AnswerRight : List ℕ → List ℕ → ReadBook → Type 0
-AnswerRight names words (ReadBook.Book n m) = Tables names n words m
-AnswerRight names words (ReadBook.Refused f p) = Unit
+AnswerRight names words (ReadBook.Book h) = Tables h names words
+AnswerRight names words (ReadBook.Refused r) = Unit
 
 abbrev pub ResultRight : Result → Type 0
 ResultRight r = AnswerRight (r .names) (r .words) (r .answer)
 
 right-cases : (st : State) (l : List ℕ) → Right st → Cases st l (λ next k. Right next) ResultRight
 right-cases st l right = record {
-  refused = λ f p. tt;
+  refused = λ f p h. tt;
   form = right-form st l right;
   item = right-item st l right;
   rule = right-rule st l right;
   end = λ x h. right .tables;
 }
 
-pub read-right : (l : List ℕ) (n m : ℕ) → readText l .answer ≡ ReadBook.Book n m → Tables (readText l .names) n (readText l .words) m
-read-right l n m e = subst (AnswerRight (readText l .names) (readText l .words)) e
+pub read-right : (l : List ℕ) {h : Head} → readText l .answer ≡ ReadBook.Book h → Tables h (readText l .names) (readText l .words)
+read-right l e = subst (AnswerRight (readText l .names) (readText l .words)) e
     (read-says (λ st rest. Right st) ResultRight right-cases (length l) start l right-start)

@@ -12,6 +12,8 @@ use lib.ListN.{length, getD, take, drop, List·getD-eq-default}
 use borrow.Author.Tests.{ltb-true}
 use Rattle.laws.proofs.Bools.{true-not-false, and-left, and-right}
 use Rattle.laws.proofs.Every.{every-at}
+use Rattle.classes.specs.Class.{topLevel}
+use Rattle.refusals.specs.Sizes.{mostLeft}
 use Rattle.items.specs.Lookup.{findIn}
 use Rattle.items.specs.declared.Found.{Found}
 use Rattle.items.proofs.Lookup.{find-lowest}
@@ -19,17 +21,17 @@ use Rattle.accepts.specs.Accepted.{PlaceAccepted, RuleAccepted}
 use Rattle.tokens.proofs.Tokens.{class-is-text}
 use Rattle.lines.proofs.Sides.{name-some}
 use Rattle.lines.specs.declared.Line.{Line}
 use Rattle.reader.specs.Names.{firstName, restNames, isItem, itemNumber, everyItem, numbersOf, rising}
 use Rattle.reader.specs.Lines.{State, ruleKind, leftPlaces, leftNumbers, rightFound, ruleOf}
 use Rattle.reader.proofs.LookUps.{right-none, right-some}
-use Rattle.rulebook.proofs.LineFacts.{names-some}
-use Rattle.rulebook.proofs.LineCases.{RuleRead}
-use Rattle.rulebook.proofs.Entries.{places-at}
+use Rattle.reader.proofs.LineFacts.{names-some}
+use Rattle.reader.proofs.LineCases.{RuleRead}
+use Rattle.reader.proofs.Entries.{places-at}
 
 pub found-item : (x : Found) → isItem x ≡ true → x ≡ Found.At (itemNumber x)
 found-item (Found.At i) e = refl
 found-item Found.Absent e = absurd (true-not-false e refl)
-found-item Found.BadTable e = absurd (true-not-false e refl)
+found-item (Found.Refused r) e = absurd (true-not-false e refl)
 
 pub item-below : (t : List ℕ) (n : ℕ) (name : List ℕ) → isItem (findIn t n name) ≡ true → itemNumber (findIn t n name) < n
 item-below t n name e = find-lowest t n name (itemNumber (findIn t n name)) (found-item (findIn t n name) e) .item
@@ -55,7 +57,7 @@ module _ (st : State) (l : List ℕ) (x : Line) (h : RuleRead st l x) where
   abbrev numbers : List ℕ
   numbers = leftNumbers st l x
 
-  pub left-few : length numbers ≤ 8
+  pub left-few : length numbers ≤ mostLeft
   left-few = omega (arith, numbers-length (st .names) (st .counts .items) (x .value .names) (drop (x .from) l), h .short)
 
   pub left-item : (k : ℕ) → getD (leftPlaces numbers) k 0 ≡ getD numbers k 0
@@ -71,10 +73,10 @@ module _ (st : State) (l : List ℕ) (x : Line) (h : RuleRead st l x) where
         (omega (arith, numbers-length (st .names) (st .counts .items) (x .value .names) (drop (x .from) l)));
   }
 
-  level-low : x .value .class .level ≤ 15
+  level-low : x .value .class .level ≤ topLevel
   level-low = go (decLt (ruleKind (x .key)) 2)
     where
-      go : Dec (ruleKind (x .key) < 2) → x .value .class .level ≤ 15
+      go : Dec (ruleKind (x .key) < 2) → x .value .class .level ≤ topLevel
       go (yes z) = class-is-text _ _ _ (h .value .classed z .class) .class .level
       go (no z) = rw (h .value .named (omega (arith, h .value .known)) .class) (omega arith)
 

@@ -6,30 +6,35 @@ use mathlib.Core.List.{List}
 use Prim.Native.Nat.{ℕ, zero, suc, _≤_, _<_}
 use lib.ListN.{length}
 use Rattle.laws.specs.Tells.{Tells}
-use Rattle.laws.specs.First.{Sought}
+use Rattle.laws.specs.First.{AllBelow, Sought}
+use Rattle.refusals.specs.Said.{Said}
+use Rattle.refusals.specs.Sizes.{mostItems, mostRules}
+use Rattle.rules.specs.declared.Head.{Head}
 use Rattle.rules.specs.declared.Rule.{Rule}
 use Rattle.accepts.specs.Accepted.{RuleAccepted, Standing}
-use Rattle.refusals.specs.Sizes.{mostItems, mostRules}
 use Rattle.checker.specs.declared.list.Seen.{Seen}
-use Rattle.checker.specs.Answer.{Said}
 use Rattle.checker.specs.Checking.{RuleMet, CheckSays}
 use Rattle.checker.specs.List.{listAt, ListAccepted}
 
--- m rules in a list of this length, and n items, are not too many.
-pub record Sizes (len m n : ℕ) : Type 0 where
-  pub items : n ≤ mostItems
-  pub rules : m ≤ mostRules
-  pub room : m ≤ len
+-- The head is not too large, and a list of this length is not too short for it.
+pub record Sizes (len : ℕ) (h : Head) : Type 0 where
+  pub items : h .items ≤ mostItems
+  pub rules : h .rules ≤ mostRules
+  pub room : h .rules ≤ len
 
--- c rules are looked at: all m where the sizes are right, and never more than there are or may be.
-pub record Count (len m n c : ℕ) : Type 0 where
-  pub all : Sizes len m n → c ≡ m
+-- c rules are looked at: all of them where the sizes are right, and never more than there are or may be.
+pub record Count (len : ℕ) (h : Head) (c : ℕ) : Type 0 where
+  pub all : Sizes len h → c ≡ h .rules
   pub room : c ≤ len
   pub few : c ≤ mostRules
 
+-- The head of the book of the first i rules.
+abbrev pub upTo : Head → ℕ → Head
+upTo h i = record { items = h .items; rules = i }
+
 -- The first i rules are accepted in this order.
-pub record InOrder (at : ℕ → Rule) (n i : ℕ) : Type 0 where
-  pub each : (r : ℕ) → r < i → Standing at i n r
+abbrev pub InOrder : Head → (ℕ → Rule) → ℕ → Type 0
+InOrder h at i = AllBelow (Standing (upTo h i) at) i
 
 -- The kind of the last of the first i rules; before the first it is the lowest.
 abbrev pub kindBefore : (ℕ → Rule) → ℕ → ℕ
@@ -37,14 +42,14 @@ kindBefore at zero = 0
 kindBefore at (suc i) = at i .kind
 
 -- What is known of the first i rules.
-pub record Known (at : ℕ → Rule) (n : ℕ) (levels marks : List ℕ) (i : ℕ) (s : Seen) : Type 0 where
-  pub good : Tells (InOrder at n i) (s .good)
+pub record SeenSoFar (h : Head) (at : ℕ → Rule) (levels marks : List ℕ) (i : ℕ) (s : Seen) : Type 0 where
+  pub good : Tells (InOrder h at i) (s .good)
   pub kind : s .kind ≡ kindBefore at i
   pub unmet : Sought (RuleMet at levels marks) i (s .unmet)
 
 -- It is known of no rule.
 pub record Starts (s : Seen) : Type 0 where
-  pub start : (at : ℕ → Rule) (n : ℕ) (levels marks : List ℕ) → Known at n levels marks 0 s
+  pub start : (h : Head) (at : ℕ → Rule) (levels marks : List ℕ) → SeenSoFar h at levels marks 0 s
 
 -- The rules before this one are accepted, and this one may come behind them.
 pub record Stands (before : Seen) (rule : Rule) (n : ℕ) : Type 0 where
@@ -57,9 +62,10 @@ pub record SoughtOn (before : ℕ) (rule : Rule) (i : ℕ) (levels marks : List 
   pub on : (at : ℕ → Rule) → rule ≡ at i → i < mostRules → Sought (RuleMet at levels marks) i before → Sought (RuleMet at levels marks) (suc i) after
 
 -- From what is known before rule i to what is known after it.
-pub record GoesOn (before : Seen) (rule : Rule) (i n : ℕ) (levels marks : List ℕ) (after : Seen) : Type 0 where
-  pub on : (at : ℕ → Rule) → rule ≡ at i → i < mostRules → Known at n levels marks i before → Known at n levels marks (suc i) after
+pub record GoesOn (before : Seen) (rule : Rule) (i : ℕ) (h : Head) (levels marks : List ℕ) (after : Seen) : Type 0 where
+  pub on : (at : ℕ → Rule) → rule ≡ at i → i < mostRules → SeenSoFar h at levels marks i before → SeenSoFar h at levels marks (suc i) after
 
 -- From what is known of the rules that were looked at to what checking says of the list.
-pub record Concludes (seen : Seen) (len m n : ℕ) (levels marks : List ℕ) (s : Said) : Type 0 where
-  pub says : (rules : List Rule) → length rules ≡ len → {c : ℕ} → Count len m n c → Known (listAt rules) n levels marks c seen → CheckSays (ListAccepted rules m n) (listAt rules) m n levels marks s
+pub record Concludes (seen : Seen) (len : ℕ) (h : Head) (levels marks : List ℕ) (s : Said) : Type 0 where
+  pub says : (rules : List Rule) → length rules ≡ len → {c : ℕ} → Count len h c → SeenSoFar h (listAt rules) levels marks c seen
+      → CheckSays (ListAccepted h rules) h (listAt rules) levels marks s

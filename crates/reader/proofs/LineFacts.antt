@@ -1,60 +1,33 @@
 -- What a line that is read says of the text: its key, its value and its LF; of a rule the left names, the colon, and what stands behind it. They
 -- rest on the definitions of lines, answer by answer.
 -- Assumes nothing.
-use mathlib.Core.Path.{_≡_, refl, ap, _∙_, subst}
+use mathlib.Core.Path.{_≡_, refl, subst}
 use mathlib.Core.Bool.{Bool, true, false, cond}
-use mathlib.Core.List.{List, [], _∷_, _++_}
+use mathlib.Core.List.{List}
 use Prim.Native.Nat.{ℕ, zero, suc, _+_, _≤_, _<_}
-use native.Mathlib.Numerals.{add-one, one-add}
+use native.Mathlib.Numerals.{one-add}
 use native.Mathlib.Omega.{arith}
-use lib.Dec.{ltb, eqb}
-use lib.ListN.{take, drop}
-use lib.Seq.{take-suc, take-add}
+use lib.Dec.{eqb}
+use lib.ListN.{drop}
 use borrow.Author.Tests.{eqb-true}
 use Rattle.classes.specs.Class.{lowest}
-use Rattle.items.specs.Names.{nameRoom}
-use Rattle.scans.specs.Bytes.{nameByte}
-use Rattle.scans.specs.Bytes.{byteAt, runLen}
-use Rattle.scans.proofs.Places.{byte-in, byte-inside}
-use Rattle.keys.specs.Keys.{keyText, keyAt}
+use Rattle.scans.specs.Bytes.{byteAt}
+use Rattle.keys.specs.Keys.{keyAt}
 use Rattle.keys.specs.declared.Key.{Key}
 use Rattle.keys.specs.declared.ReadKey.{ReadKey}
-use Rattle.keys.proofs.KeyTexts.{key-is-text}
-use Rattle.tokens.specs.Tokens.{nameOfRun, nameAt, countAt, classAt}
+use Rattle.tokens.specs.Tokens.{nameAt, countAt, classAt}
 use Rattle.tokens.specs.declared.ReadName.{ReadName}
 use Rattle.tokens.specs.declared.ReadCount.{ReadCount}
 use Rattle.tokens.specs.declared.ReadClass.{ReadClass}
 use Rattle.lines.specs.Left.{leftAt}
-use Rattle.lines.specs.Values.{unnamed, named, formAt, itemOf, itemAt, capOf, capAt, floorOf, floorAt, followOf, followAt, endOf, endAt, classBehind, withClass, rightBehind, withRight, valueAt}
-use Rattle.lines.specs.Lines.{ended, lineOf, lineAt, lineLen}
+use Rattle.lines.specs.Values.{unnamed, formAt, itemOf, itemAt, capOf, capAt, floorOf, floorAt, followOf, followAt, endOf, endAt, classBehind, withClass, rightBehind, withRight, valueAt}
+use Rattle.lines.specs.Lines.{ended, lineOf, lineAt}
 use Rattle.lines.specs.declared.left.ReadLeft.{ReadLeft}
 use Rattle.lines.specs.declared.value.Value.{Value}
 use Rattle.lines.specs.declared.value.ReadValue.{ReadValue}
 use Rattle.lines.specs.declared.Line.{Line}
 use Rattle.lines.specs.declared.ReadLine.{ReadLine}
 use Rattle.lines.proofs.Sides.{left-by}
-
--- A name that is read is the whole run of its bytes.
-abbrev RunSays : List ℕ → ReadName → Type 0
-RunSays l ReadName.Bad = Unit
-RunSays l (ReadName.Found n) = runLen nameByte l ≡ n
-
-run-says : (l : List ℕ) → RunSays l (nameAt l)
-unfolding nameOfRun
-run-says l = says (ltb (runLen nameByte l) 1) (ltb nameRoom (runLen nameByte l))
-  where
-    says : (a b : Bool) → RunSays l (cond a ReadName.Bad (cond b ReadName.Bad (ReadName.Found (runLen nameByte l))))
-    says true b = tt
-    says false true = tt
-    says false false = refl
-
-pub name-run : (l : List ℕ) (n : ℕ) → nameAt l ≡ ReadName.Found n → runLen nameByte l ≡ n
-name-run l n e = subst (RunSays l) e (run-says l)
-
--- One byte more at the front of a text.
-pub take-byte : (n : ℕ) (l : List ℕ) (b : ℕ) → byteAt (drop n l) ≡ b → 0 < b → take (n + 1) l ≡ take n l ++ (b ∷ [])
-take-byte n l b e h =
-    ap (λ (k : ℕ). take k l) (add-one n) ∙ take-suc l n 0 (byte-inside l n (omega arith)) ∙ ap (λ (c : ℕ). take n l ++ (c ∷ [])) (byte-in l n ∙ e)
 
 -- A left side of c names and n bytes: a name, and where there are more a plus sign behind it and the others.
 pub record NameThen (more : List ℕ → ℕ → Type 0) (l : List ℕ) (n : ℕ) : Type 0 where
@@ -230,13 +203,3 @@ parts-say l (ReadKey.Found k n) e = ended-says l k n (valueAt k (drop n l)) e re
 
 pub line-parts : (l : List ℕ) (x : Line) → lineAt l ≡ ReadLine.Found x → LineParts l x
 line-parts l x e = subst (PartsSay l) e (parts-say l (keyAt l) refl)
-
--- The bytes of a line: its key's text, its value's bytes, and LF.
-pub line-text : (l : List ℕ) (x : Line) → LineParts l x
-    → take (lineLen x) l ≡ keyText (x .key) ++ take (x .value .len) (drop (x .from) l) ++ (10 ∷ [])
-line-text l x h =
-    take-byte (x .from + x .value .len) l 10 (h .last) (omega arith)
-    ∙ ap (λ (y : List ℕ). y ++ (10 ∷ [])) (take-add (x .from) (x .value .len) l ∙ ap (λ (y : List ℕ). y ++ take (x .value .len) (drop (x .from) l)) front)
-  where
-    front : take (x .from) l ≡ keyText (x .key)
-    front = let here = key-is-text l (x .key) (x .from) (h .key) in ap (λ (k : ℕ). take k l) (here .size) ∙ here .begins .text

@@ -1,33 +1,28 @@
--- What a table holds after one more entry: an item's name, a rule's words, and the left places of a rule. The entries before it are as they were.
--- They rest on the laws of a put and of looking up a name.
+-- What a table holds after one more item, and the left places of a rule. The items before it are as they were. They rest on the laws of a put and of looking up
+-- a name.
 -- Assumes nothing.
-use mathlib.Core.Path.{_≡_, refl, sym, ap, _∙_}
+use mathlib.Core.Path.{_≡_, sym, ap, _∙_}
 use mathlib.Core.Bool.{true}
-use mathlib.Core.List.{List, [], _∷_}
-use Prim.Native.Nat.{ℕ, zero, suc, _+_, _*_, _≤_, _<_}
+use mathlib.Core.List.{List}
+use Prim.Native.Nat.{ℕ, _+_, _*_, _≤_, _<_}
 use native.Mathlib.Nat.{zero-add}
 use native.Mathlib.Decide.{decLt}
 use native.Mathlib.Omega.{arith}
 use borrow.Author.Count.{below-more}
 use lib.ListN.{length, getD, replicate, List·getD-eq-default}
-use lib.Seq.{ext-getD}
-use Rattle.items.specs.Names.{nameRoom, isName}
-use Rattle.scans.specs.Bytes.{nameByte}
-use Rattle.items.specs.Table.{entryByte, nameLen, nameOf, NameAt, NewAt, ItemsOk}
-use Rattle.refusals.specs.Sizes.{mostItems}
-use Rattle.items.specs.Lookup.{findIn}
-use Rattle.items.specs.declared.Found.{Found}
-use Rattle.items.proofs.Names.{name-spelled, byte-not-zero}
-use Rattle.items.proofs.Table.{nameOf-length, nameOf-at, nameLen-is}
-use Rattle.items.proofs.Lookup.{HasName, find-lowest, find-absent, name-is-name, own-name}
-use Rattle.items.proofs.Counted.{SameItems, items-counted}
-use Rattle.rules.specs.Table.{ruleWords, wordAt, ruleAt}
-use Rattle.rules.specs.declared.Rule.{Rule}
-use Rattle.refusals.specs.Sizes.{mostLeft}
 use Rattle.laws.specs.Over.{over}
 use Rattle.laws.proofs.Over.{over-length}
-use Rattle.reader.specs.Lines.{leftPlaces, wordsOf}
 use Rattle.laws.proofs.Buffers.{over-before, over-inside, over-behind, zeros-at}
+use Rattle.refusals.specs.Sizes.{mostItems, mostLeft}
+use Rattle.items.specs.Names.{nameRoom, isName}
+use Rattle.items.specs.Table.{entryByte, NameAt, NewAt, ItemsOk}
+use Rattle.items.specs.Lookup.{findIn}
+use Rattle.items.specs.declared.Found.{Found}
+use Rattle.items.proofs.Names.{name-spelled}
+use Rattle.items.proofs.Lookup.{HasName, find-absent}
+use Rattle.items.proofs.Counted.{SameItems, items-counted}
+use Rattle.items.proofs.Entries.{has-name-at}
+use Rattle.reader.specs.Lines.{leftPlaces}
 
 -- Every byte behind n items is zero.
 pub record Spare (t : List ℕ) (n : ℕ) : Type 0 where
@@ -88,62 +83,6 @@ module _ (t : List ℕ) (n : ℕ) (name : List ℕ) (e : isName name ≡ true) (
     where
       before : ItemsOk added n
       before = items-counted added-same o
-
--- Eight numbers are the numbers at their places.
-eight : (l : List ℕ) → length l ≡ 8
-    → l ≡ getD l 0 0 ∷ getD l 1 0 ∷ getD l 2 0 ∷ getD l 3 0 ∷ getD l 4 0 ∷ getD l 5 0 ∷ getD l 6 0 ∷ getD l 7 0 ∷ []
-eight l e = ext-getD 0 l _ e (λ i h. go i (omega (arith, h)))
-  where
-    go : (i : ℕ) → i < 8
-        → getD l i 0 ≡ getD (getD l 0 0 ∷ getD l 1 0 ∷ getD l 2 0 ∷ getD l 3 0 ∷ getD l 4 0 ∷ getD l 5 0 ∷ getD l 6 0 ∷ getD l 7 0 ∷ []) i 0
-    go zero h = refl
-    go (suc zero) h = refl
-    go (suc (suc zero)) h = refl
-    go (suc (suc (suc zero))) h = refl
-    go (suc (suc (suc (suc zero)))) h = refl
-    go (suc (suc (suc (suc (suc zero))))) h = refl
-    go (suc (suc (suc (suc (suc (suc zero)))))) h = refl
-    go (suc (suc (suc (suc (suc (suc (suc zero))))))) h = refl
-    go (suc (suc (suc (suc (suc (suc (suc (suc i)))))))) h = absurd (omega arith)
-
--- One more rule: its words are put behind r rules.
-module _ (w : List ℕ) (r : ℕ) (x : Rule) (room : r * ruleWords + ruleWords ≤ length w) where
-  abbrev pub ruled : List ℕ
-  ruled = over w (r * ruleWords) (wordsOf x)
-
-  pub ruled-length : length ruled ≡ length w
-  ruled-length = over-length w (r * ruleWords) (wordsOf x) room
-
-  word : (k : ℕ) → k < ruleWords → wordAt ruled r k ≡ getD (wordsOf x) k 0
-  unfolding wordAt
-  word k h = over-inside w (r * ruleWords) (wordsOf x) room k h
-
-  word-before : (q : ℕ) → q < r → (k : ℕ) → k < ruleWords → wordAt ruled q k ≡ wordAt w q k
-  unfolding wordAt
-  word-before q h k l = over-before w (r * ruleWords) (wordsOf x) room (q * 13 + k) (omega arith)
-
-  pub ruled-here : length (x .left) ≡ mostLeft → ruleAt ruled r ≡ x
-  unfolding ruleAt
-  ruled-here e =
-      rw (
-        word 0 (omega arith),
-        word 1 (omega arith),
-        word 2 (omega arith),
-        word 3 (omega arith),
-        word 4 (omega arith),
-        word 5 (omega arith),
-        word 6 (omega arith),
-        word 7 (omega arith),
-        word 8 (omega arith),
-        word 9 (omega arith),
-        word 10 (omega arith),
-        word 11 (omega arith),
-        word 12 (omega arith),
-        ← eight (x .left) e,
-      )
-
-  pub ruled-before : (q : ℕ) → q < r → ruleAt ruled q ≡ ruleAt w q
-  ruled-before q h = rule-by-words ruled w q (word-before q h)
 
 -- The left places of a rule hold its items, and zeros behind them.
 module _ (items : List ℕ) (few : length items ≤ mostLeft) where
