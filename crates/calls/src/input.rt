@@ -1,17 +1,17 @@
 // What a call is made of, read from standard input: words, each a line of sixteen hex digits.
 use libc::STDIN_FILENO;
+use puts::put;
 use scans::LF;
+use scans::byte_at;
 use tokens::ReadClass;
 use tokens::read_class;
 ghost use Prim.Native.Nat.{_≤_};
-ghost use lib.ListN.{length};
-ghost use Rattle.calls.specs.Sized.{Sized};
+
+// The bytes of a line.
+const LINE: usize = 17;
 
 // What the text of a class has in front of its sixteen digits.
 const LEVEL: usize = 2;
-
-// That, the digits, and the LF.
-const LINE: usize = LEVEL + 17;
 
 // One word: its value, whether its line has the form, and whether the input had ended before it.
 pub(crate) struct Word {
@@ -47,15 +47,15 @@ struct Sizes {
 // The next word. Its digits are read as the marks of a class.
 pub(crate) fn word_in() -> Word {
     let mut line = [0u8; LINE];
-    let front: [u8; LEVEL] = [b'0', b'/'];
-    line[0] = front[0];
-    line[1] = front[1];
-    let n = io::read_full(STDIN_FILENO, &mut line[LEVEL..]);
+    let n = io::read_full(STDIN_FILENO, &mut line);
     let ended = n == 0;
-    match read_class(&line, 0) {
-        ReadClass::Found(class, _) => Word {
-            value: class.marks,
-            good: line[LINE - 1] == LF,
+    let mut class = [0u8; LEVEL + LINE];
+    put(b"0/", &mut class, 0);
+    put(&line[..n], &mut class, LEVEL);
+    match read_class(&class, 0) {
+        ReadClass::Found(token) => Word {
+            value: token.class.marks,
+            good: byte_at(&class, token.len) == LF,
             ended,
         },
         ReadClass::Bad => Word {
@@ -87,7 +87,7 @@ pub(crate) fn numbers_in() -> Numbers {
 
 // The sizes of a buffer that has at most so many elements. None where they may not be.
 fn sizes_in(most: usize) -> Sizes
-    ensures { λ r. ⌜ Sized (r .count) (r .room) most ⌝ }
+    ensures { λ r. ⌜ r .count ≤ most ⌝ }
 {
     let room = word_in();
     let count = word_in();
@@ -105,7 +105,7 @@ fn sizes_in(most: usize) -> Sizes
 }
 
 fn no_sizes() -> Sizes
-    ensures { λ r. ⌜ Sized (r .count) (r .room) 0 ⌝ }
+    ensures { λ r. ⌜ r .count ≤ 0 ⌝ }
 {
     Sizes {
         room: 0,
@@ -115,9 +115,7 @@ fn no_sizes() -> Sizes
 }
 
 // The bytes of a buffer.
-pub(crate) fn bytes_in(buf: &mut [u8]) -> Lent
-    ensures { λ r. ⌜ r .room ≤ length (now (buf .exit)) ⌝ }
-{
+pub(crate) fn bytes_in(buf: &mut [u8]) -> Lent {
     let sizes = sizes_in(buf.len());
     let mut good = sizes.good;
     let mut i = 0;
@@ -132,9 +130,7 @@ pub(crate) fn bytes_in(buf: &mut [u8]) -> Lent
 }
 
 // The words of a buffer.
-pub(crate) fn words_in(buf: &mut [u64]) -> Lent
-    ensures { λ r. ⌜ r .room ≤ length (now (buf .exit)) ⌝ }
-{
+pub(crate) fn words_in(buf: &mut [u64]) -> Lent {
     let sizes = sizes_in(buf.len());
     let mut good = sizes.good;
     let mut i = 0;
@@ -149,9 +145,7 @@ pub(crate) fn words_in(buf: &mut [u64]) -> Lent
 }
 
 // The bools of a buffer.
-pub(crate) fn bools_in(buf: &mut [bool]) -> Lent
-    ensures { λ r. ⌜ r .room ≤ length (now (buf .exit)) ⌝ }
-{
+pub(crate) fn bools_in(buf: &mut [bool]) -> Lent {
     let sizes = sizes_in(buf.len());
     let mut good = sizes.good;
     let mut i = 0;

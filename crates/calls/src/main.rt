@@ -1,9 +1,11 @@
 // Makes the calls that standard input has, and prints the answer of each and what it leaves in the lent buffers. tests/calls/README.md says how a call
 // and an answer are written, and which routine has which number.
 mod answer;
+mod front;
 mod input;
 mod label_calls;
 mod output;
+mod table_calls;
 mod token_calls;
 
 use answer::Answer;
@@ -73,23 +75,16 @@ fn lend(routine: u64, numbers: Numbers, good: bool) -> bool {
     if ROUTINES <= routine {
         return false;
     }
-    let text_room = t.room;
-    let items_room = i.room;
-    let out_room = o.room;
-    let rules_room = r.room;
-    let levels_room = l.room;
-    let marks_room = m.room;
-    let kept_room = k.room;
     call(
         routine,
         numbers,
-        &text[..text_room],
-        &mut items[..items_room],
-        &mut out[..out_room],
-        &mut rules[..rules_room],
-        &mut levels[..levels_room],
-        &mut marks[..marks_room],
-        &mut kept[..kept_room],
+        front::bytes(&mut text, t.room),
+        front::bytes(&mut items, i.room),
+        front::bytes(&mut out, o.room),
+        front::words(&mut rules, r.room),
+        front::words(&mut levels, l.room),
+        front::words(&mut marks, m.room),
+        front::bools(&mut kept, k.room),
     );
     true
 }
@@ -98,7 +93,7 @@ fn lend(routine: u64, numbers: Numbers, good: bool) -> bool {
 fn call(
     routine: u64,
     numbers: Numbers,
-    text: &[u8],
+    text: &mut [u8],
     items: &mut [u8],
     out: &mut [u8],
     rules: &mut [u64],
@@ -129,6 +124,7 @@ fn made(
     kept: &mut [bool],
 ) -> Answer {
     match routine {
+        3..=8 => table_calls::call(routine, numbers, text, items, rules, levels, marks),
         11..=16 => label_calls::call(routine, numbers, rules, levels, marks),
         20..=24 => token_calls::reading(routine, numbers, text),
         _ => token_calls::putting(routine, numbers, items, out),

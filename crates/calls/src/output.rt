@@ -3,7 +3,6 @@ use super::answer::Answer;
 use libc::STDOUT_FILENO;
 use puts::put;
 use scans::LF;
-ghost use Prim.Native.Nat.{_≤_};
 
 // The bytes of a line.
 const LINE: usize = 17;
@@ -12,13 +11,11 @@ const LINE: usize = 17;
 const CHUNK: usize = LINE * 240;
 
 // Puts the line of a word at a place of a chunk, which is written first where it is full. Answers the place behind the line.
-fn line(word: u64, chunk: &mut [u8; CHUNK], at: usize) -> usize
-    ensures { λ r. ⌜ r ≤ 4080 ⌝ }
-{
+fn line(word: u64, chunk: &mut [u8; CHUNK], at: usize) -> usize {
     let mut digits = [0u8; 16];
-    io::hex(word, 16, &mut digits);
+    let n = io::hex(word, 16, &mut digits);
     let mut text = [LF; LINE];
-    put(&digits, &mut text, 0);
+    put(&digits[..n], &mut text, 0);
     if at <= CHUNK - LINE {
         put(&text, chunk, at);
         return at + LINE;
@@ -28,27 +25,34 @@ fn line(word: u64, chunk: &mut [u8; CHUNK], at: usize) -> usize
     LINE
 }
 
-// The refusal's number, its place or which success it is, and the values, their number first.
-pub(crate) fn answer_out(answer: Answer) {
-    word_out(answer.refusal);
-    word_out(answer.which);
-    let values = answer.values;
-    words_out(front(&values, answer.count));
+// Writes what stands in a chunk before a place.
+fn flush(chunk: &[u8; CHUNK], at: usize) {
+    io::write_all(STDOUT_FILENO, first_bytes(chunk, at));
 }
 
-// The first words, or all where there are fewer.
-fn front(words: &[u64], n: usize) -> &[u64] {
+// So many bytes from the front, or all where there are fewer.
+fn first_bytes(bytes: &[u8], n: usize) -> &[u8] {
+    if bytes.len() < n {
+        return bytes;
+    }
+    &bytes[0..n]
+}
+
+fn first_words(words: &[u64], n: usize) -> &[u64] {
     if words.len() < n {
         return words;
     }
     &words[0..n]
 }
 
-// A word.
-fn word_out(word: u64) {
+// The refusal's number, its place or which success it is, and the values, their number first.
+pub(crate) fn answer_out(answer: Answer) {
     let mut chunk = [0u8; CHUNK];
-    line(word, &mut chunk, 0);
-    io::write_all(STDOUT_FILENO, &chunk[..LINE]);
+    let at = line(answer.refusal, &mut chunk, 0);
+    let end = line(answer.which, &mut chunk, at);
+    flush(&chunk, end);
+    let values = answer.values;
+    words_out(first_words(&values, answer.count));
 }
 
 // A buffer of bytes: its room, and each of them.
@@ -60,7 +64,7 @@ pub(crate) fn bytes_out(bytes: &[u8]) {
         at = line(wide(bytes[i]), &mut chunk, at);
         i += 1;
     }
-    io::write_all(STDOUT_FILENO, &chunk[..at]);
+    flush(&chunk, at);
 }
 
 // A buffer of words.
@@ -72,7 +76,7 @@ pub(crate) fn words_out(words: &[u64]) {
         at = line(words[i], &mut chunk, at);
         i += 1;
     }
-    io::write_all(STDOUT_FILENO, &chunk[..at]);
+    flush(&chunk, at);
 }
 
 // A buffer of bools, 1 for yes.
@@ -84,7 +88,7 @@ pub(crate) fn bools_out(bools: &[bool]) {
         at = line(bit(bools[i]), &mut chunk, at);
         i += 1;
     }
-    io::write_all(STDOUT_FILENO, &chunk[..at]);
+    flush(&chunk, at);
 }
 
 fn wide(b: u8) -> u64 {

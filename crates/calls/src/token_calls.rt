@@ -49,14 +49,14 @@ fn name(read: ReadName) -> Answer {
 
 fn count(read: ReadCount) -> Answer {
     match read {
-        ReadCount::Found(value, len) => two(0, value, len as u64),
+        ReadCount::Found(number) => two(0, number.value, number.len as u64),
         ReadCount::Bad => none(1),
     }
 }
 
 fn class(read: ReadClass) -> Answer {
     match read {
-        ReadClass::Found(class, len) => three(0, class.level, class.marks, len as u64),
+        ReadClass::Found(token) => three(0, token.class.level, token.class.marks, token.len as u64),
         ReadClass::Bad => none(1),
     }
 }

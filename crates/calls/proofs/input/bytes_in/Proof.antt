@@ -1,3 +1,7 @@
+-- `bytes_in` meets its contract. Assumes nothing.
+use mathlib.Core.Path.{_≡_}
+use Prim.Native.Nat.{_-_}
+use lib.ListN.{length}
 use borrow.Author.Needs.{needs}
 use Rattle.calls.proofs.input.bytes_in.Statement.{statement}
 use Rattle.calls.proofs.input.bytes_in.Tie as tie
@@ -7,10 +11,10 @@ use Rattle.calls.proofs.input.sizes_in.Reads as sizes-in-reads
 use Rattle.calls.proofs.input.word_in.Reads as word-in-reads
 
 abbrev Inv-loop : tie.InvT-loop
-Inv-loop buf₀ sizes good₀ i₀ buf good i = ?
+Inv-loop buf₀ sizes good₀ i₀ buf good i = length buf ≡ length buf₀
 
 abbrev μ-loop : tie.MeasureT-loop
-μ-loop buf₀ sizes good₀ i₀ buf good i = ?
+μ-loop buf₀ sizes good₀ i₀ buf good i = sizes .count - i
 
 -- src/input.rt:121:9
 sizes-in-requires : tie.Need-sizes-in-requires Inv-loop μ-loop

@@ -1,2 +1,0 @@
--- What the contracts of `calls` cite: the sizes of a lent buffer.
-pub mod Sized
