@@ -19,8 +19,10 @@ use Rattle.tokens.specs.Numbers.{digit, digitsOf, decimalLen, decimalOf}
 use Rattle.tokens.specs.Tokens.{countText, classText}
 use Rattle.tokens.proofs.Values.{digits-length}
 use Rattle.tokens.proofs.Tokens.{class-length}
-use Rattle.puts.specs.Writing.{Put, DigitRoom, DigitsPut}
+use Rattle.puts.specs.Writing.{Put}
+use Rattle.puts.specs.InnerDigits.{DigitRoom, DigitsPut}
 use Rattle.laws.specs.Over.{over}
+use Rattle.scans.specs.Ascii.{slash}
 use Rattle.puts.proofs.Placed.{put-there, put-nowhere}
 use Rattle.laws.proofs.Over.{over-is, over-none, over-set, over-over, over-length, set-over}
 
@@ -28,27 +30,28 @@ use Rattle.laws.proofs.Over.{over-is, over-none, over-set, over-over, over-leng
 pub room-yes : (m n : ℕ) (b : Bool) → b ≡ leb m n → not b ≡ false → m ≤ n
 room-yes m n b e t = leb-true m n (sym e ∙ not-false b t)
 
--- Bytes copied: i of them are.
+-- Bytes copied: there is room for them, and i of them are.
 pub record Copied (d : List ℕ) (at : ℕ) (x d′ : List ℕ) (i : ℕ) : Type 0 where
+  pub room : at + length x ≤ length d
   pub within : i ≤ length x
   pub kept : length d′ ≡ length d
   pub copied : d′ ≡ paste d at x i
 
-pub copied-none : {d : List ℕ} {at : ℕ} {x : List ℕ} → Copied d at x d 0
-copied-none {d} {at} {x} = record { within = zero-le; kept = refl; copied = paste-zero d at x }
+pub copied-none : (d : List ℕ) (at : ℕ) (x : List ℕ) (b : Bool) → b ≡ leb (at + length x) (length d) → not b ≡ false → Copied d at x d 0
+copied-none d at x b e t = record { room = room-yes (at + length x) (length d) b e t; within = zero-le; kept = refl; copied = paste-zero d at x }
 
-module _ {d : List ℕ} {at : ℕ} {x d′ : List ℕ} {i : ℕ} (c : Copied d at x d′ i) (room : at + length x ≤ length d) where
-  pub copied-more : i < length x → Copied d at x (set d′ (at + i) (getD x i 0)) (i + 1)
-  copied-more h = record {
-    within = omega arith;
-    kept = rw length-set (c .kept);
-    copied = rw (c .copied, paste-suc d at x i 0 (omega arith) h, add-one);
-  }
+pub copied-more : {d : List ℕ} {at : ℕ} {x d′ : List ℕ} {i : ℕ} → Copied d at x d′ i → i < length x → Copied d at x (set d′ (at + i) (getD x i 0)) (i + 1)
+copied-more {d} {at} {x} {d′} {i} c h = record {
+  room = c .room;
+  within = omega arith;
+  kept = rw length-set (c .kept);
+  copied = rw (c .copied, paste-suc d at x i 0 (omega (arith, c .room)) h, add-one);
+}
 
-  pub copied-end : length x ≤ i → Put d at x d′ (at + length x)
-  copied-end h =
-      let all : i ≡ length x = omega (arith, c .within) in
-      put-there d at x d′ (at + length x) room (c .copied ∙ rw (all, take-length) (sym (over-is d at x))) refl
+pub copied-end : {d : List ℕ} {at : ℕ} {x d′ : List ℕ} {i : ℕ} → Copied d at x d′ i → length x ≤ i → Put d at x d′ (at + length x)
+copied-end {d} {at} {x} {d′} {i} c h =
+    let all : i ≡ length x = omega (arith, c .within) in
+    put-there d at x d′ (at + length x) (c .room) (c .copied ∙ rw (all, take-length) (sym (over-is d at x))) refl
 
 -- A digit of a base that is at most 16 is below 16.
 pub digit-small : (base k : ℕ) (d : List ℕ) (at v : ℕ) → DigitRoom base k d at → v % base < 16
@@ -93,7 +96,7 @@ module _ (n : ℕ) (d : List ℕ) (at k : ℕ) (len : k ≡ decimalLen n) where
   long-count : length (countText n) ≡ k
   long-count = digits-length 10 (decimalLen n) n ∙ sym len
 
-  pub count-nowhere : (b : Bool) → b ≡ leb (at + k) (length d) → not b ≡ true → Put d at (countText n) d at
+  pub count-nowhere : (b : Bool) → b ≡ leb (at + k) (length d) → not b ≡ true → Put d at (countText n) d (length d + 1)
   count-nowhere b e t = put-nowhere d at (countText n) k b long-count e t
 
   module _ (b : Bool) (e : b ≡ leb (at + k) (length d)) (t : not b ≡ false) where
@@ -110,15 +113,15 @@ module _ (c : Class) (d : List ℕ) (at k : ℕ) (len : k ≡ decimalLen (c .lev
   long : length (decimalOf (c .level)) ≡ k
   long = digits-length 10 (decimalLen (c .level)) (c .level) ∙ sym len
 
-  size : length (classText c) ≡ k + 17
-  size = class-length c ∙ rw len
+  size : length (classText c) ≡ k + 1 + 16
+  size = omega (arith, class-length c, len)
 
-  pub class-nowhere : (b : Bool) → b ≡ leb (at + (k + 17)) (length d) → not b ≡ true → Put d at (classText c) d at
-  class-nowhere b e t = put-nowhere d at (classText c) (k + 17) b size e t
+  pub class-nowhere : (b : Bool) → b ≡ leb (at + (k + 1 + 16)) (length d) → not b ≡ true → Put d at (classText c) d (length d + 1)
+  class-nowhere b e t = put-nowhere d at (classText c) (k + 1 + 16) b size e t
 
-  module _ (b : Bool) (e : b ≡ leb (at + (k + 17)) (length d)) (t : not b ≡ false) where
-    room : at + (k + 17) ≤ length d
-    room = room-yes (at + (k + 17)) (length d) b e t
+  module _ (b : Bool) (e : b ≡ leb (at + (k + 1 + 16)) (length d)) (t : not b ≡ false) where
+    room : at + (k + 1 + 16) ≤ length d
+    room = room-yes (at + (k + 1 + 16)) (length d) b e t
 
     pub level-room : (base : ℕ) → 0 < base → base ≤ 16 → DigitRoom base k d at
     level-room base h g = record { base-least = h; base-most = g; room = omega (arith, room) }
@@ -142,7 +145,7 @@ module _ (c : Class) (d : List ℕ) (at k : ℕ) (len : k ≡ decimalLen (c .lev
       pub marks-room : (base j b : ℕ) → 0 < base → base ≤ 16 → j ≤ 16 → DigitRoom base j (set d₁ s b) (s + 1)
       marks-room base j b h g f = record { base-least = h; base-most = g; room = rw length-set (omega (arith, slash-room)) }
 
-      pub class-there : (d₂ : List ℕ) (r : ℕ) → DigitsPut 16 16 (c .marks) (set d₁ s 47) (s + 1) d₂ r → Put d at (classText c) d₂ r
+      pub class-there : (d₂ : List ℕ) (r : ℕ) → DigitsPut 16 16 (c .marks) (set d₁ s slash) (s + 1) d₂ r → Put d at (classText c) d₂ r
       class-there d₂ r q =
           put-there d at (classText c) d₂ r (rw size room) (q .buffer ∙ rw (slash-put, after) both) (omega (arith, q .next, p .next, size))
         where
@@ -152,14 +155,14 @@ module _ (c : Class) (d : List ℕ) (at k : ℕ) (len : k ≡ decimalLen (c .lev
           place : s ≡ at + length x
           place = p .next ∙ rw long
 
-          slash-put : set d₁ s 47 ≡ over d at (x ++ (47 ∷ []))
+          slash-put : set d₁ s slash ≡ over d at (x ++ (slash ∷ []))
           slash-put =
-              set-over d₁ s 47 (omega (arith, slash-room)) ∙ rw (level-put, place) (over-over d at x (omega (arith, room, long)) (47 ∷ []))
+              set-over d₁ s slash (omega (arith, slash-room)) ∙ rw (level-put, place) (over-over d at x (omega (arith, room, long)) (slash ∷ []))
 
-          after : s + 1 ≡ at + length (x ++ (47 ∷ []))
+          after : s + 1 ≡ at + length (x ++ (slash ∷ []))
           after = rw length-append (omega (arith, place))
 
-          both : over (over d at (x ++ (47 ∷ []))) (at + length (x ++ (47 ∷ []))) (digitsOf 16 16 (c .marks)) ≡ over d at (classText c)
+          both : over (over d at (x ++ (slash ∷ []))) (at + length (x ++ (slash ∷ []))) (digitsOf 16 16 (c .marks)) ≡ over d at (classText c)
           both =
-              over-over d at (x ++ (47 ∷ [])) (omega (arith, after, place, long, room)) (digitsOf 16 16 (c .marks))
-              ∙ ap (over d at) (append-snoc x 47 (digitsOf 16 16 (c .marks)))
+              over-over d at (x ++ (slash ∷ [])) (omega (arith, after, place, long, room)) (digitsOf 16 16 (c .marks))
+              ∙ ap (over d at) (append-snoc x slash (digitsOf 16 16 (c .marks)))

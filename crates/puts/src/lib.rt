@@ -1,21 +1,32 @@
-// Tokens put at a place of a lent buffer. Each function answers the place after what it put; where the buffer has no room for the whole of
-// it, it writes nothing and answers the place itself.
+// Tokens put at a place of a lent buffer. Where the buffer has no room for the whole of it, each function writes nothing and answers a place past
+// the buffer's end, its length plus one, at which nothing has room; else it answers the place after what it put. So where several are put one
+// behind the other, the last answer tells whether there was room for all of them.
 use classes::Class;
 use keys::Key;
+use scans::DIGIT_0;
+use scans::SLASH;
 ghost use mathlib.Core.Path.{_≡_};
 ghost use Prim.Native.Nat.{_+_, _<_};
 ghost use lib.Dec.{leb};
 ghost use Rattle.keys.specs.Keys.{keyText};
 ghost use Rattle.tokens.specs.Numbers.{digit, decimalLen};
 ghost use Rattle.tokens.specs.Tokens.{countText, classText};
-ghost use Rattle.puts.specs.Writing.{Put, DigitRoom, DigitsPut};
+ghost use Rattle.puts.specs.Writing.{Put};
+ghost use Rattle.puts.specs.InnerDigits.{DigitRoom, DigitsPut};
+
+// The bases of numbers, and how many digits the marks of a class have.
+const DECIMAL: u64 = 10;
+
+const HEX: u64 = 16;
+
+const MARK_DIGITS: usize = 16;
 
 // Puts these bytes.
 pub fn put(bytes: &[u8], out: &mut [u8], at: usize) -> usize
     ensures { λ r. ⌜ Put (now (out .entry)) at (now (bytes .entry)) (now (out .exit)) r ⌝ }
 {
     if !has_room(out.len(), at, bytes.len()) {
-        return at;
+        return out.len() + 1;
     }
     let mut i = 0;
     while i < bytes.len() {
@@ -45,9 +56,9 @@ pub fn put_count(n: u64, out: &mut [u8], at: usize) -> usize
 {
     let k = decimal_len(n);
     if !has_room(out.len(), at, k) {
-        return at;
+        return out.len() + 1;
     }
-    put_digits(10, k, n, out, at)
+    put_digits(DECIMAL, k, n, out, at)
 }
 
 // Puts a class: the level as a count is put, a slash, and the marks in sixteen lower-case hex digits.
@@ -55,12 +66,12 @@ pub fn put_class(class: Class, out: &mut [u8], at: usize) -> usize
     ensures { λ r. ⌜ Put (now (out .entry)) at (classText class) (now (out .exit)) r ⌝ }
 {
     let k = decimal_len(class.level);
-    if !has_room(out.len(), at, k + 17) {
-        return at;
+    if !has_room(out.len(), at, k + 1 + MARK_DIGITS) {
+        return out.len() + 1;
     }
-    let slash = put_digits(10, k, class.level, out, at);
-    out[slash] = b'/';
-    put_digits(16, 16, class.marks, out, slash + 1)
+    let slash = put_digits(DECIMAL, k, class.level, out, at);
+    out[slash] = SLASH;
+    put_digits(HEX, MARK_DIGITS, class.marks, out, slash + 1)
 }
 
 // Puts the lowest k digits of n, highest first.
@@ -93,10 +104,10 @@ fn digit_byte(d: u64) -> u8
     requires { ⌜ d < 16 ⌝ }
     ensures { λ r. ⌜ r ≡ digit d ⌝ }
 {
-    if d < 10 {
-        (48 + d) as u8
+    if d < DECIMAL {
+        DIGIT_0 + d as u8
     } else {
-        (87 + d) as u8
+        b'a' + (d - DECIMAL) as u8
     }
 }
 

@@ -11,17 +11,19 @@ use lib.Dec.{eqb}
 use lib.ListN.{drop}
 use borrow.Author.Tests.{eqb-true}
 use Rattle.classes.specs.Class.{lowest}
+use Rattle.scans.specs.Ascii.{lf, plus, digit1, colon}
 use Rattle.scans.specs.Bytes.{byteAt}
 use Rattle.keys.specs.Keys.{keyAt}
 use Rattle.keys.specs.declared.Key.{Key}
 use Rattle.keys.specs.declared.ReadKey.{ReadKey}
-use Rattle.tokens.specs.Tokens.{nameAt, countAt, classAt}
+use Rattle.tokens.specs.Tokens.{nameAt, countFound, countAt, classFound, classAt}
 use Rattle.tokens.specs.declared.ReadName.{ReadName}
 use Rattle.tokens.specs.declared.ReadCount.{ReadCount}
 use Rattle.tokens.specs.declared.ReadClass.{ReadClass}
 use Rattle.lines.specs.Left.{leftAt}
 use Rattle.lines.specs.Values.{unnamed, formAt, itemOf, itemAt, capOf, capAt, floorOf, floorAt, followOf, followAt, endOf, endAt, classBehind, withClass, rightBehind, withRight, valueAt}
 use Rattle.lines.specs.Lines.{ended, lineOf, lineAt}
+use Rattle.lines.specs.declared.left.LeftSide.{LeftSide}
 use Rattle.lines.specs.declared.left.ReadLeft.{ReadLeft}
 use Rattle.lines.specs.declared.value.Value.{Value}
 use Rattle.lines.specs.declared.value.ReadValue.{ReadValue}
@@ -33,7 +35,7 @@ use Rattle.lines.proofs.Sides.{left-by}
 pub record NameThen (more : List ℕ → ℕ → Type 0) (l : List ℕ) (n : ℕ) : Type 0 where
   pub first : ℕ
   pub name : nameAt l ≡ ReadName.Found first
-  pub plus : byteAt (drop first l) ≡ 43
+  pub plus : byteAt (drop first l) ≡ plus
   pub rest : ℕ
   pub size : n ≡ first + 1 + rest
   pub others : more (drop (first + 1) l) rest
@@ -47,10 +49,10 @@ pub names-some : (c : ℕ) (l : List ℕ) (n : ℕ) → LeftNames c l n → 1 �
 names-some zero l n h = absurd h
 names-some (suc c) l n h = omega arith
 
-pub left-names : (l : List ℕ) (c n : ℕ) → leftAt l ≡ ReadLeft.Found c n → LeftNames c l n
+pub left-names : (l : List ℕ) (x : LeftSide) → leftAt l ≡ ReadLeft.Found x → LeftNames (x .names) l (x .len)
 left-names = left-by (λ l c n. LeftNames c l n) (λ l n e. e) more
   where
-    more : (l : List ℕ) (n c k : ℕ) → nameAt l ≡ ReadName.Found n → byteAt (drop n l) ≡ 43 → LeftNames c (drop (n + 1) l) k
+    more : (l : List ℕ) (n c k : ℕ) → nameAt l ≡ ReadName.Found n → byteAt (drop n l) ≡ plus → LeftNames c (drop (n + 1) l) k
         → LeftNames (1 + c) l (n + 1 + k)
     more l n zero k e f g = absurd g
     more l n (suc c) k e f g = rw (one-add (suc c)) (record { first = n; name = e; plus = f; rest = k; size = refl; others = g })
@@ -58,7 +60,7 @@ left-names = left-by (λ l c n. LeftNames c l n) (λ l n e. e) more
 -- What stands behind the colon: a class, or a name.
 pub record ClassTail (l : List ℕ) (v : Value) : Type 0 where
   pub width : ℕ
-  pub class : classAt (drop (v .left + 1) l) ≡ ReadClass.Found (v .class) width
+  pub class : classAt (drop (v .left + 1) l) ≡ classFound (v .class) width
   pub size : v .len ≡ v .left + 1 + width
   pub right : v .right ≡ 0
 
@@ -71,7 +73,7 @@ pub record NameTail (l : List ℕ) (v : Value) : Type 0 where
 pub record RuleValue (kind : ℕ) (l : List ℕ) (v : Value) : Type 0 where
   pub known : kind ≤ 2
   pub left : LeftNames (v .names) l (v .left)
-  pub colon : byteAt (drop (v .left) l) ≡ 58
+  pub colon : byteAt (drop (v .left) l) ≡ colon
   pub single : kind ≡ 0 → v .names ≡ 1
   pub classed : kind < 2 → ClassTail l v
   pub named : kind ≡ 2 → NameTail l v
@@ -82,28 +84,28 @@ ValueSays P l (ReadValue.Found v) = P l v
 
 class-says : (kind names n : ℕ) (l : List ℕ) → kind < 2 → (kind ≡ 0 → names ≡ 1) → LeftNames names l n → ValueSays (RuleValue kind) l (withClass names n l)
 unfolding withClass
-class-says kind names n l h s left = colon (eqb (byteAt (drop n l)) 58) refl
+class-says kind names n l h s left = signed (eqb (byteAt (drop n l)) colon) refl
   where
-    behind : byteAt (drop n l) ≡ 58 → (x : ReadClass) → classAt (drop (n + 1) l) ≡ x → ValueSays (RuleValue kind) l (classBehind names n x)
+    behind : byteAt (drop n l) ≡ colon → (x : ReadClass) → classAt (drop (n + 1) l) ≡ x → ValueSays (RuleValue kind) l (classBehind names n x)
     behind d ReadClass.Bad e = tt
-    behind d (ReadClass.Found c k) e = record {
+    behind d (ReadClass.Found x) e = record {
       known = omega arith;
       left = left;
       colon = d;
       single = s;
-      classed = λ z. record { width = k; class = e; size = refl; right = refl };
+      classed = λ z. record { width = x .len; class = e; size = refl; right = refl };
       named = λ z. absurd (omega arith);
     }
 
-    colon : (b : Bool) → eqb (byteAt (drop n l)) 58 ≡ b → ValueSays (RuleValue kind) l (cond b (classBehind names n (classAt (drop (n + 1) l))) ReadValue.Bad)
-    colon true d = behind (eqb-true (byteAt (drop n l)) 58 d) (classAt (drop (n + 1) l)) refl
-    colon false d = tt
+    signed : (b : Bool) → eqb (byteAt (drop n l)) colon ≡ b → ValueSays (RuleValue kind) l (cond b (classBehind names n (classAt (drop (n + 1) l))) ReadValue.Bad)
+    signed true d = behind (eqb-true (byteAt (drop n l)) colon d) (classAt (drop (n + 1) l)) refl
+    signed false d = tt
 
 right-says : (names n : ℕ) (l : List ℕ) → LeftNames names l n → ValueSays (RuleValue 2) l (withRight names n l)
 unfolding withRight
-right-says names n l left = colon (eqb (byteAt (drop n l)) 58) refl
+right-says names n l left = signed (eqb (byteAt (drop n l)) colon) refl
   where
-    behind : byteAt (drop n l) ≡ 58 → (x : ReadName) → nameAt (drop (n + 1) l) ≡ x → ValueSays (RuleValue 2) l (rightBehind names n x)
+    behind : byteAt (drop n l) ≡ colon → (x : ReadName) → nameAt (drop (n + 1) l) ≡ x → ValueSays (RuleValue 2) l (rightBehind names n x)
     behind d ReadName.Bad e = tt
     behind d (ReadName.Found k) e = record {
       known = omega arith;
@@ -114,9 +116,9 @@ right-says names n l left = colon (eqb (byteAt (drop n l)) 58) refl
       named = λ z. record { name = e; size = refl; class = refl };
     }
 
-    colon : (b : Bool) → eqb (byteAt (drop n l)) 58 ≡ b → ValueSays (RuleValue 2) l (cond b (rightBehind names n (nameAt (drop (n + 1) l))) ReadValue.Bad)
-    colon true d = behind (eqb-true (byteAt (drop n l)) 58 d) (nameAt (drop (n + 1) l)) refl
-    colon false d = tt
+    signed : (b : Bool) → eqb (byteAt (drop n l)) colon ≡ b → ValueSays (RuleValue 2) l (cond b (rightBehind names n (nameAt (drop (n + 1) l))) ReadValue.Bad)
+    signed true d = behind (eqb-true (byteAt (drop n l)) colon d) (nameAt (drop (n + 1) l)) refl
+    signed false d = tt
 
 cap-says : (l : List ℕ) (x : ReadName) → nameAt l ≡ x → ValueSays (RuleValue 0) l (capOf l x)
 cap-says l ReadName.Bad e = tt
@@ -124,11 +126,11 @@ cap-says l (ReadName.Found n) e = class-says 0 1 n l (omega arith) (λ z. refl) 
 
 floor-says : (l : List ℕ) (x : ReadLeft) → leftAt l ≡ x → ValueSays (RuleValue 1) l (floorOf l x)
 floor-says l ReadLeft.Bad e = tt
-floor-says l (ReadLeft.Found c n) e = class-says 1 c n l (omega arith) (λ z. absurd (omega arith)) (left-names l c n e)
+floor-says l (ReadLeft.Found x) e = class-says 1 (x .names) (x .len) l (omega arith) (λ z. absurd (omega arith)) (left-names l x e)
 
 follow-says : (l : List ℕ) (x : ReadLeft) → leftAt l ≡ x → ValueSays (RuleValue 2) l (followOf l x)
 follow-says l ReadLeft.Bad e = tt
-follow-says l (ReadLeft.Found c n) e = right-says c n l (left-names l c n e)
+follow-says l (ReadLeft.Found x) e = right-says (x .names) (x .len) l (left-names l x e)
 
 module _ (l : List ℕ) (v : Value) where
   pub cap-value : capAt l ≡ ReadValue.Found v → RuleValue 0 l v
@@ -142,7 +144,7 @@ module _ (l : List ℕ) (v : Value) where
 
 -- The values of form, of an item and of the end.
 pub record FormValue (l : List ℕ) (v : Value) : Type 0 where
-  pub one : byteAt l ≡ 49
+  pub one : byteAt l ≡ digit1
   pub size : v .len ≡ 1
 
 pub record ItemValue (l : List ℕ) (v : Value) : Type 0 where
@@ -150,14 +152,14 @@ pub record ItemValue (l : List ℕ) (v : Value) : Type 0 where
   pub size : v .len ≡ v .left
 
 pub record EndValue (l : List ℕ) (v : Value) : Type 0 where
-  pub count : countAt l ≡ ReadCount.Found (v .count) (v .len)
+  pub count : countAt l ≡ countFound (v .count) (v .len)
 
 form-says : (l : List ℕ) → ValueSays FormValue l (formAt l)
 unfolding formAt
-form-says l = says (eqb (byteAt l) 49) refl
+form-says l = says (eqb (byteAt l) digit1) refl
   where
-    says : (b : Bool) → eqb (byteAt l) 49 ≡ b → ValueSays FormValue l (cond b (unnamed 0 1) ReadValue.Bad)
-    says true e = record { one = eqb-true (byteAt l) 49 e; size = refl }
+    says : (b : Bool) → eqb (byteAt l) digit1 ≡ b → ValueSays FormValue l (cond b (unnamed 0 1) ReadValue.Bad)
+    says true e = record { one = eqb-true (byteAt l) digit1 e; size = refl }
     says false e = tt
 
 item-says : (l : List ℕ) (x : ReadName) → nameAt l ≡ x → ValueSays ItemValue l (itemOf x)
@@ -166,7 +168,7 @@ item-says l (ReadName.Found n) e = record { name = e; size = refl }
 
 end-says : (l : List ℕ) (x : ReadCount) → countAt l ≡ x → ValueSays EndValue l (endOf x)
 end-says l ReadCount.Bad e = tt
-end-says l (ReadCount.Found v n) e = record { count = e }
+end-says l (ReadCount.Found x) e = record { count = e }
 
 module _ (l : List ℕ) (v : Value) where
   pub form-value : formAt l ≡ ReadValue.Found v → FormValue l v
@@ -182,7 +184,7 @@ module _ (l : List ℕ) (v : Value) where
 pub record LineParts (l : List ℕ) (x : Line) : Type 0 where
   pub key : keyAt l ≡ ReadKey.Found (x .key) (x .from)
   pub value : valueAt (x .key) (drop (x .from) l) ≡ ReadValue.Found (x .value)
-  pub last : byteAt (drop (x .from + x .value .len) l) ≡ 10
+  pub last : byteAt (drop (x .from + x .value .len) l) ≡ lf
 
 abbrev PartsSay : List ℕ → ReadLine → Type 0
 PartsSay l ReadLine.Bad = Unit
@@ -190,11 +192,11 @@ PartsSay l (ReadLine.Found x) = LineParts l x
 
 ended-says : (l : List ℕ) (k : Key) (n : ℕ) (y : ReadValue) → keyAt l ≡ ReadKey.Found k n → valueAt k (drop n l) ≡ y → PartsSay l (ended l k n y)
 ended-says l k n ReadValue.Bad e f = tt
-ended-says l k n (ReadValue.Found v) e f = says (eqb (byteAt (drop (n + v .len) l)) 10) refl
+ended-says l k n (ReadValue.Found v) e f = says (eqb (byteAt (drop (n + v .len) l)) lf) refl
   where
-    says : (b : Bool) → eqb (byteAt (drop (n + v .len) l)) 10 ≡ b
+    says : (b : Bool) → eqb (byteAt (drop (n + v .len) l)) lf ≡ b
         → PartsSay l (cond b (ReadLine.Found (record { key = k; from = n; value = v })) ReadLine.Bad)
-    says true d = record { key = e; value = f; last = eqb-true (byteAt (drop (n + v .len) l)) 10 d }
+    says true d = record { key = e; value = f; last = eqb-true (byteAt (drop (n + v .len) l)) lf d }
     says false d = tt
 
 parts-say : (l : List ℕ) (y : ReadKey) → keyAt l ≡ y → PartsSay l (lineOf l y)

@@ -77,7 +77,7 @@ module _ (st : State) (l : List ℕ) (x : Line) (h : RuleRead st l x) where
   level-low = go (decLt (ruleKind (x .key)) 2)
     where
       go : Dec (ruleKind (x .key) < 2) → x .value .class .level ≤ topLevel
-      go (yes z) = class-is-text _ _ _ (h .value .classed z .class) .class .level
+      go (yes z) = class-is-text _ _ (h .value .classed z .class) .class .level
       go (no z) = rw (h .value .named (omega (arith, h .value .known)) .class) (omega arith)
 
   pub right-name : ruleKind (x .key) ≡ 2

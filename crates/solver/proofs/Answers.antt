@@ -1,89 +1,141 @@
 -- The answers of solving, one law for each.
 -- Assumes nothing.
-use mathlib.Core.Path.{_≡_, refl, sym, _∙_, ap, ap₂, subst}
-use mathlib.Core.List.{List}
-use Prim.Native.Nat.{ℕ, suc, _^_, _≤_, _<_}
+use mathlib.Core.Path.{_≡_, refl, sym, ap, ap₂, subst, _∙_}
+use mathlib.Core.Bool.{Bool, true, false, not}
+use mathlib.Core.List.{List, [], _∷_}
+use Prim.Native.Nat.{ℕ, zero, suc, _^_, _≤_, _<_}
 use native.Mathlib.Omega.{arith}
 use lib.ListN.{length, getD, replicate, length-replicate, getD-replicate}
-use Rattle.classes.specs.Class.{classOf, IsClass, highest}
-use Rattle.classes.specs.Parts.{partCount, part, topOf}
+use mir.Syntax.{w64}
+use mir.Val.{Fits}
 use Rattle.laws.specs.Tells.{Tells}
-use Rattle.classes.specs.declared.Class.{Class}
+use Rattle.laws.proofs.Tells.{told-no, told-yes}
+use Rattle.classes.specs.Class.{topLevel, classOf, IsClass, highest}
+use Rattle.classes.specs.Parts.{partCount, part, topOf}
+use Rattle.classes.proofs.Bits.{bit-small}
 use Rattle.classes.proofs.Parts.{highest-parts}
-use Rattle.meaning.specs.Labelling.{Wanted}
+use Rattle.refusals.specs.declared.Fault.{Fault}
+use Rattle.refusals.specs.Sizes.{mostItems}
+use Rattle.refusals.specs.Said.{success, refusedBy}
 use Rattle.meaning.specs.Classes.{classes, classParts}
+use Rattle.meaning.specs.Parts.{RefusedBelow}
 use Rattle.meaning.proofs.Classes.{classLaws}
 use Rattle.meaning.proofs.Same.{wanted-same}
 use Rattle.meaning.proofs.Whole.{parts-wanted-below, refused-below}
+use Rattle.labels.specs.Labels.{Room}
+use Rattle.rules.specs.declared.Head.{Head}
 use Rattle.rules.specs.Table.{bookOf}
 use Rattle.accepts.specs.Accepted.{TableAccepted}
 use Rattle.accepts.proofs.Inside.{table-inside}
-use Rattle.labels.specs.Labels.{Room}
-use Rattle.solver.specs.Solving.{Buffers, held, labelsOf, refused, labelled, SolveSays, bad-table, no-room, no-labelling, writes-labels}
-use Rattle.solver.specs.Steps.{labelsAt}
-use Rattle.solver.specs.Lowers.{Copied}
-use Rattle.solver.specs.Labels.{Bounded, WantedEverywhere, LabelSays}
+use Rattle.solver.specs.Solving.{Buffers, held, labelsOf, saidSolved, SolveSays, bad-table, no-room, no-labelling, writes-labels}
+use Rattle.solver.specs.InnerSteps.{labelsAt}
+use Rattle.solver.specs.InnerLowers.{CopyRoom, Copied}
+use Rattle.solver.specs.InnerLabels.{Bounded, WantedEverywhere, LabelSays, labelled, unlabelled}
+use Rattle.solver.specs.declared.Solved.{Solved}
 use Rattle.solver.specs.declared.label.Outcome.{Outcome}
-use Rattle.solver.specs.declared.label.Outcome.the-variants.{Done, Without}
 
--- Where labelling starts: the highest class at every item.
-pub record Highest (n : ℕ) (b : Buffers) : Type 0 where
-  pub room : Room n (b .levels) (b .marks)
-  pub labels : (i : ℕ) → i < n → labelsOf b i ≡ highest
+-- The same class at every item is a bound.
+abbrev everyItem : ℕ → ℕ → Buffers
+everyItem l m = held (replicate mostItems l) (replicate mostItems m)
 
-pub highest-start : (n : ℕ) → n ≤ 256 → Highest n (held (replicate 256 15) (replicate 256 0xffff_ffff_ffff_ffff))
-highest-start n s = record {
-  room = record { forLevels = omega (arith, length-replicate {A = ℕ} 256 15); forMarks = omega (arith, length-replicate {A = ℕ} 256 0xffff_ffff_ffff_ffff) };
-  labels = λ i l. ap₂ classOf (getD-replicate 256 i 15 0 (omega arith)) (getD-replicate 256 i 0xffff_ffff_ffff_ffff 0 (omega arith));
+every-label : (l m i : ℕ) → i < mostItems → labelsOf (everyItem l m) i ≡ classOf l m
+every-label l m i s = ap₂ classOf (getD-replicate mostItems i l 0 s) (getD-replicate mostItems i m 0 s)
+
+pub start-bounded : {h : Head} {t : List ℕ} {b : Bool} → Tells (TableAccepted h t) b → not b ≡ false → (l m : ℕ) → l ≤ topLevel
+    → Bounded h t (held (replicate mostItems l) (replicate mostItems m))
+unfolding part topOf
+start-bounded {h} {t} told passed l m small = record {
+  usable = record {
+    inside = table-inside ok;
+    room = record {
+      forLevels = omega (arith, ok .accepted .items, length-replicate {A = ℕ} mostItems l);
+      forMarks = omega (arith, ok .accepted .items, length-replicate {A = ℕ} mostItems m);
+    };
+    size = ok .accepted .items;
+  };
+  tops = λ p s i q. subst (λ c. part p c ≤ topOf p) (sym (every-label l m i (omega (arith, ok .accepted .items)))) (top p s);
 }
+  where
+    ok : TableAccepted h t
+    ok = told-yes told passed
 
-highest-tops : {n : ℕ} {b : Buffers} → Highest n b → (p : ℕ) → p < partCount → (i : ℕ) → i < n → labelsAt p b i ≡ topOf p
-highest-tops x p s i l = ap (part p) (x .labels i l) ∙ highest-parts p s
+    top : (p : ℕ) → p < partCount → part p (classOf l m) ≤ topOf p
+    top zero s = small
+    top (suc k) s = omega (arith, bit-small k m)
 
-pub highest-bounded : {t : List ℕ} {m n : ℕ} {b : Buffers} → TableAccepted t m n → Highest n b → Bounded t m n b
-highest-bounded ok x = record {
-  ready = record { accepted = ok; room = x .room };
-  tops = λ p s i l. omega (arith, highest-tops x p s i l);
-}
+-- A list for as many items as a book may have.
+pub record FullSize (l : List ℕ) : Type 0 where
+  pub size : length l ≡ mostItems
 
-module _ (t : List ℕ) (m n : ℕ) (before : Buffers) where
-  pub says-table : (TableAccepted t m n → ⊥) → SolveSays t m n before (refused 10 0) before
-  says-table bad = bad-table (record { bad = bad; untouched = refl })
+-- What copying the labels out asks.
+module _ {h : Head} {t : List ℕ} {b : Bool} (table : Tells (TableAccepted h t) b) (passed : not b ≡ false) {levels marks : List ℕ} {d : Bool}
+    (room : Tells (Room (h .items) levels marks) d) (fits : not d ≡ false) {from : List ℕ} (size : FullSize from) where
+  enough : h .items ≤ length from
+  enough = omega (arith, told-yes table passed .accepted .items, size .size)
 
-  pub says-levels : TableAccepted t m n → length (before .levels) < n → SolveSays t m n before (refused 11 0) before
-  says-levels ok s = no-room (record { accepted = ok; short = λ r. absurd (omega (arith, r .forLevels)); untouched = refl })
+  pub copy-levels : CopyRoom (h .items) from levels
+  copy-levels = record { source = enough; target = told-yes room fits .forLevels }
 
-  pub says-marks : TableAccepted t m n → length (before .marks) < n → SolveSays t m n before (refused 11 0) before
-  says-marks ok s = no-room (record { accepted = ok; short = λ r. absurd (omega (arith, r .forMarks)); untouched = refl })
+  pub copy-marks : CopyRoom (h .items) from marks
+  copy-marks = record { source = enough; target = told-yes room fits .forMarks }
 
-  pub says-without : TableAccepted t m n → Room n (before .levels) (before .marks) → (p : ℕ) (start mid : Buffers) (o : Outcome) → o ≡ Without p → Highest n start → LabelSays t m n start mid o → SolveSays t m n before (refused 9 p) before
-  says-without ok room p start mid o e x r = no-labelling (record {
-    accepted = ok;
-    room = room;
-    unlabelled = refused-below classParts classLaws (bookOf t m n) (table-inside ok) (labelsOf start) (highest-tops x) (subst (LabelSays t m n start mid) e r);
-    untouched = refl;
-  })
+-- What labelling comes to, by the answer.
+outcome-wanted : {h : Head} {t : List ℕ} {start mid : Buffers} → LabelSays h t start Outcome.Done mid → WantedEverywhere h t start mid
+outcome-wanted (labelled x) = x
 
-  pub says-labelled : TableAccepted t m n → Room n (before .levels) (before .marks) → (start mid after : Buffers) (o : Outcome) → o ≡ Done → Highest n start → LabelSays t m n start mid o → Copied n (mid .levels) (before .levels) (after .levels) → Copied n (mid .marks) (before .marks) (after .marks) → ((i : ℕ) → getD (after .marks) i 0 < 2 ^ 64) → SolveSays t m n before (labelled n) after
-  unfolding part topOf
-  says-labelled ok room start mid after o e x told levels marks words = writes-labels (record {
-    accepted = ok;
-    room = room;
-    count = refl;
-    wanted = wanted-same classes (bookOf t m n) (table-inside ok) written
-        (parts-wanted-below classParts classLaws (bookOf t m n) (table-inside ok) (labelsOf start) (highest-tops x) (labelsOf mid) is (everywhere .wanted));
-    levels = levels .kept;
-    marks = marks .kept;
-  })
-    where
-      everywhere : WantedEverywhere t m n start mid
-      everywhere = subst (LabelSays t m n start mid) e told
+outcome-refused : {h : Head} {t : List ℕ} {start mid : Buffers} {p : ℕ} → LabelSays h t start (Outcome.Without p) mid
+    → RefusedBelow classParts (bookOf h t) (labelsOf start) p
+outcome-refused (unlabelled x) = x
 
-      written : (i : ℕ) → i < n → labelsOf mid i ≡ labelsOf after i
-      written i s = ap₂ classOf (sym (levels .front i s)) (sym (marks .front i s))
+-- Labelling starts from the highest class at every item.
+abbrev highestStart : Buffers
+highestStart = everyItem topLevel 0xffff_ffff_ffff_ffff
 
-      is : (i : ℕ) → i < n → IsClass (labelsOf mid i)
-      is i s = record {
-        level = everywhere .wanted 0 (omega arith) .below .labelling .labels i s;
-        marks = omega (arith, words i, marks .front i s);
-      }
+module _ {h : Head} {t : List ℕ} {before : Buffers} {b : Bool} (table : Tells (TableAccepted h t) b) where
+  pub says-table : not b ≡ true → (r : Solved) → saidSolved r ≡ refusedBy Fault.BadTable 0 → SolveSays h t before (saidSolved r) before
+  says-table failed r e = rw e (bad-table (record { bad = told-no table failed; untouched = refl }))
+
+  module _ (passed : not b ≡ false) {d : Bool} (room : Tells (Room (h .items) (before .levels) (before .marks)) d) where
+    ok : TableAccepted h t
+    ok = told-yes table passed
+
+    pub says-room : not d ≡ true → (r : Solved) → saidSolved r ≡ refusedBy Fault.NoRoom 0 → SolveSays h t before (saidSolved r) before
+    says-room failed r e = rw e (no-room (record { accepted = ok; short = told-no room failed; untouched = refl }))
+
+    module _ (fits : not d ≡ false) {mid : Buffers} {o : Outcome} (told : LabelSays h t highestStart o mid) where
+      tops : (p : ℕ) → p < partCount → (i : ℕ) → i < h .items → labelsAt p highestStart i ≡ topOf p
+      tops p s i l = ap (part p) (every-label topLevel 0xffff_ffff_ffff_ffff i (omega (arith, ok .accepted .items))) ∙ highest-parts p s
+
+      pub says-without : {p : ℕ} → o ≡ Outcome.Without p → (r : Solved) → saidSolved r ≡ refusedBy Fault.NoLabelling p → SolveSays h t before (saidSolved r) before
+      says-without e r f = rw f (no-labelling (record {
+        accepted = ok;
+        room = told-yes room fits;
+        unlabelled = refused-below classParts classLaws (bookOf h t) (table-inside ok) (labelsOf highestStart) tops (outcome-refused (rw e at told));
+        untouched = refl;
+      }))
+
+      module _ (e : o ≡ Outcome.Done) {levels marks : List ℕ} (copied-levels : Copied (h .items) (mid .levels) (before .levels) levels)
+          (copied-marks : Copied (h .items) (mid .marks) (before .marks) marks) (words : (i : ℕ) → Fits w64 (getD marks i 0)) where
+        everywhere : WantedEverywhere h t highestStart mid
+        everywhere = outcome-wanted (rw e at told)
+
+        written : (i : ℕ) → i < h .items → labelsOf mid i ≡ labelsOf (held levels marks) i
+        written i s = ap₂ classOf (sym (copied-levels .front i s)) (sym (copied-marks .front i s))
+
+        is : (i : ℕ) → i < h .items → IsClass (labelsOf mid i)
+        unfolding part topOf
+        is i s = record {
+          level = everywhere .wanted 0 (omega arith) .below .labelling .labels i s;
+          marks = omega (arith, words i .fits, copied-marks .front i s);
+        }
+
+        pub says-labelled : SolveSays h t before (success 0 (h .items ∷ [])) (held levels marks)
+        says-labelled = writes-labels (record {
+          accepted = ok;
+          room = told-yes room fits;
+          count = refl;
+          wanted = wanted-same classes (bookOf h t) (table-inside ok) written
+              (parts-wanted-below classParts classLaws (bookOf h t) (table-inside ok) (labelsOf highestStart) tops (labelsOf mid) is (everywhere .wanted));
+          levels = copied-levels .kept;
+          marks = copied-marks .kept;
+        })

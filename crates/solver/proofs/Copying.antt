@@ -12,7 +12,7 @@ use lib.Seq.{getD-set-same, getD-set-other}
 use Rattle.classes.specs.Bits.{bit}
 use Rattle.classes.proofs.Bits.{bit-and, bit-or, bit-not}
 use Rattle.solver.specs.Solving.{RestKept}
-use Rattle.solver.specs.Lowers.{Copied, Chosen}
+use Rattle.solver.specs.InnerLowers.{Copied, Chosen}
 
 -- One word more, whatever is written there.
 kept-none : {before : List ℕ} → RestKept 0 before before

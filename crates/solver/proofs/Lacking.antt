@@ -14,17 +14,18 @@ use Rattle.classes.specs.Parts.{partCount, part, topOf}
 use Rattle.classes.specs.declared.Class.{Class}
 use Rattle.classes.proofs.Bits.{bit-small, bit-and, bit-not}
 use Rattle.classes.proofs.Parts.{join-parts, lowest-parts}
-use Rattle.meaning.specs.Rules as meant
-use Rattle.meaning.specs.Rules.{Rule, mapRule, joinOver}
-use Rattle.meaning.specs.Greatest.{MetUp, HeldUp}
+use Rattle.meaning.specs.Rules.{mapRule, joinOver}
+use Rattle.meaning.specs.Greatest.{MetUp}
 use Rattle.meaning.specs.Classes.{classes, classParts}
 use Rattle.meaning.proofs.Classes.{classLaws}
 use Rattle.meaning.proofs.Whole.{joins-parts}
 use Rattle.rules.specs.Record.{leftOf, meaningOf}
+use Rattle.rules.specs.Table.{ruleAt}
+use Rattle.rules.specs.declared.Head.{Head}
 use Rattle.rules.specs.declared.Rule as table
 use Rattle.rules.proofs.Meaning.{meaning-floor, meaning-other}
 use Rattle.solver.specs.Solving.{Buffers, labelsOf}
-use Rattle.solver.specs.Steps.{valuesIn, labelsAt, bookIn, meantAt, Short, Misses, Lacks, Unheld}
+use Rattle.solver.specs.InnerSteps.{valuesIn, labelsAt, bookIn, meantAt, Short, Misses, Lacks, Unheld}
 
 pub missing-made : (x y w : Class) (l : ℕ) → x .marks < 2 ^ 64 → Short (x .level) (y .level) l → w ≡ classOf l (bitAnd (y .marks) (2 ^ 64 - 1 - x .marks)) → Misses x y w
 unfolding part
@@ -42,24 +43,25 @@ missing-made x y w l h s e = record { none = none; zero = zeros }
     zeros (suc k) t z = omega (arith, outside k (omega arith), bit-small k (y .marks), bit-small k (x .marks))
 
 -- A floor lacks what the join of its left labels misses of its class; any other rule lacks nothing.
-pub lacks-floor : (x y : table.Rule) → x ≡ y → x .kind ≡ 1 → (b : Buffers) (j w : Class) → j ≡ joinOver classes (leftOf x) (labelsOf b) → Misses j (x .class) w → Lacks (meaningOf y) b w
-lacks-floor x y same e b j w f m =
-    subst (λ r. Lacks r b w) (sym (meaning-floor x e) ∙ ap meaningOf same)
-    (record {
-      met = λ p s z. subst (λ k. part p (x .class) ≤ k) (in-part p s) (m .none p s z);
-      zero = λ p s h. m .zero p s (subst (λ k. part p (x .class) ≤ k) (sym (in-part p s)) h);
-    })
-  where
-    in-part : (p : ℕ) → p < partCount → part p j ≡ joinOver (valuesIn p) (leftOf x) (labelsAt p b)
-    in-part p s = ap (part p) f ∙ joins-parts classParts classLaws p s (leftOf x .count) (λ k. labelsOf b (leftOf x .item k))
+module _ (t : List ℕ) (r : ℕ) (x : table.Rule) (same : x ≡ ruleAt t r) (b : Buffers) where
+  pub lacks-floor : x .kind ≡ 1 → (j : Class) → j ≡ joinOver classes (leftOf x) (labelsOf b) → {w : Class} → Misses j (x .class) w → Lacks (meantAt t r) b w
+  lacks-floor e j f {w} m =
+      subst (λ k. Lacks k b w) (sym (meaning-floor x e) ∙ ap meaningOf same)
+      (record {
+        met = λ p s z. subst (λ k. part p (x .class) ≤ k) (in-part p s) (m .none p s z);
+        zero = λ p s h. m .zero p s (subst (λ k. part p (x .class) ≤ k) (sym (in-part p s)) h);
+      })
+    where
+      in-part : (p : ℕ) → p < partCount → part p j ≡ joinOver (valuesIn p) (leftOf x) (labelsAt p b)
+      in-part p s = ap (part p) f ∙ joins-parts classParts classLaws p s (leftOf x .count) (λ k. labelsOf b (leftOf x .item k))
 
-pub lacks-nothing : (x y : table.Rule) → x ≡ y → (x .kind ≡ 1 → ⊥) → (b : Buffers) → Lacks (meaningOf y) b lowest
-lacks-nothing x y same ne b =
-    subst (λ r. Lacks r b lowest) (ap meaningOf same)
-    (record {
-      met = λ p s z. meaning-other (λ r. MetUp (valuesIn p) (mapRule (part p) r) (labelsAt p b)) x ne (λ i v. tt) (λ l i. tt);
-      zero = λ p s h. lowest-parts p s;
-    })
+  pub lacks-nothing : (x .kind ≡ 1 → ⊥) → Lacks (meantAt t r) b lowest
+  lacks-nothing ne =
+      subst (λ k. Lacks k b lowest) (ap meaningOf same)
+      (record {
+        met = λ p s z. meaning-other (λ k. MetUp (valuesIn p) (mapRule (part p) k) (labelsAt p b)) x ne (λ i v. tt) (λ l i. tt);
+        zero = λ p s h. lowest-parts p s;
+      })
 
 -- The first k rules.
 pub record LacksBefore (t : List ℕ) (b : Buffers) (k : ℕ) (w : Class) : Type 0 where
@@ -78,8 +80,8 @@ lacks-more {t} {b} {k} {a} {c} {d} w x e = record {
     both : (p : ℕ) → p < partCount → part p d ≡ max (part p a) (part p c)
     both p s = ap (part p) e ∙ join-parts a c p s
 
-pub lacks-all : {t : List ℕ} {b : Buffers} {m k : ℕ} {w : Class} → LacksBefore t b k w → k ≡ m → Unheld t m b w
-lacks-all {t} {b} {m} {k} {w} x e = record {
-  held = λ n p s z. record { floors = λ r l. x .met p s z r (omega arith) };
-  zero = λ n p s h. x .zero p s (λ q l. h .floors q (omega arith));
+pub lacks-all : {h : Head} {t : List ℕ} {b : Buffers} {k : ℕ} {w : Class} → LacksBefore t b k w → k ≤ h .rules → h .rules ≤ k → Unheld h t b w
+lacks-all x below all = record {
+  held = λ p s z. record { floors = λ r l. x .met p s z r (omega arith) };
+  zero = λ p s h. x .zero p s (λ q l. h .floors q (omega arith));
 }

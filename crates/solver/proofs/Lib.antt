@@ -6,6 +6,7 @@ pub mod Sweep
 pub mod Lacking
 pub mod Copying
 pub mod Attempts
+pub mod Lowering
 pub mod Core
 pub mod Answers
 pub mod Unique

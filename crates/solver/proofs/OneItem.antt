@@ -13,7 +13,7 @@ use Rattle.laws.specs.Tells.{Tells}
 use Rattle.classes.specs.declared.Class.{Class}
 use Rattle.meaning.specs.Greatest.{Placed}
 use Rattle.solver.specs.Solving.{Buffers, held, labelsOf}
-use Rattle.solver.specs.Steps.{sum, sumOf, Tracks, LowersItem}
+use Rattle.solver.specs.InnerSteps.{sum, sumOf, Tracks, LowersItem}
 use Rattle.solver.proofs.Common.{common-covered, common-falls}
 
 -- one element stored

@@ -1,5 +1,5 @@
--- What the contracts of `solver` cite: the promise of solving, and what its steps do to labels in every part.
+-- What the contracts of `solver` cite. `Solving` is the promise of solving; the files named Inner say what its steps do to labels in every part.
 pub mod Solving
-pub mod Steps
-pub mod Lowers
-pub mod Labels
+pub mod InnerSteps
+pub mod InnerLowers
+pub mod InnerLabels

@@ -1,10 +1,11 @@
 // Floors: which parts of which floors the labels leave unmet.
 use classes::Class;
 use rules::FLOOR;
+use rules::Head;
 use rules::left_join;
 use rules::rule_at;
 ghost use Rattle.solver.specs.Solving.{held};
-ghost use Rattle.solver.specs.Steps.{Short, Misses, Lacks, Unheld, meantAt};
+ghost use Rattle.solver.specs.InnerSteps.{Short, Misses, Lacks, Unheld, meantAt};
 
 // The parts in which x does not cover y: level 1 if the level is short, and the marks that x lacks.
 fn missing(x: Class, y: Class) -> Class
@@ -31,13 +32,13 @@ fn lacking(rules: &[u64], r: usize, levels: &[u64], marks: &[u64]) -> Class
     missing(left_join(rule, levels, marks), rule.class)
 }
 
-// The parts in which some floor among the first m rules is not met.
-pub(crate) fn unheld(rules: &[u64], m: usize, levels: &[u64], marks: &[u64]) -> Class
-    ensures { λ w. ⌜ Unheld (now (rules .entry)) m (held (now (levels .entry)) (now (marks .entry))) w ⌝ }
+// The parts in which some floor is not met.
+pub(crate) fn unheld(rules: &[u64], head: Head, levels: &[u64], marks: &[u64]) -> Class
+    ensures { λ w. ⌜ Unheld head (now (rules .entry)) (held (now (levels .entry)) (now (marks .entry))) w ⌝ }
 {
     let mut all = Class::LOWEST;
     let mut r: usize = 0;
-    while r < m {
+    while r < head.rules {
         all = all.join(lacking(rules, r, levels, marks));
         r += 1;
     }

@@ -3,47 +3,60 @@ use accepts::rules_ok;
 use classes::Class;
 use label::Outcome;
 use label::label;
+use labels::has_room;
 use lower::copy;
-ghost use Rattle.solver.specs.Solving.{held, said, SolveSays};
+use refusals::Fault;
+use refusals::MOST_ITEMS;
+use refusals::Refusal;
+use rules::Head;
+ghost use mathlib.Core.Path.{_≡_};
+ghost use Rattle.refusals.specs.Said.{refusedBy};
+ghost use Rattle.solver.specs.Solving.{held, saidSolved, SolveSays};
 
 mod floors;
 mod label;
 mod lower;
 mod settle;
 
-// What solving answers: the count of the labels that were written, or why none were.
+// What solving answers: the count of the labels that were written, or a refusal.
 pub enum Solved {
     Labelled(usize),
-    BadTable,
-    NoRoom,
-    NoLabelling(u64),
+    Refused(Refusal),
 }
 
-// Writes the wanted labels of n items under the first m rules of a table. Refused are, in this order, a table that is not
-// accepted, buffers too short for the labels, and a book without a labelling, with its lowest part that has none. A refusal
-// leaves both buffers untouched; a success writes n labels from the front and leaves the rest.
-pub fn solve(rules: &[u64], m: usize, n: usize, levels: &mut [u64], marks: &mut [u64]) -> Solved
-    ensures { λ r. ⌜ SolveSays (now (rules .entry)) m n (held (now (levels .entry)) (now (marks .entry))) (said r) (held (now (levels .exit)) (now (marks .exit))) ⌝ }
+// Writes the wanted labels of a book's items under the rules of its table. Refused are, in this order, a table that is not
+// accepted (BadTable at 0), buffers too short for the labels (NoRoom at 0), and a book without a labelling (NoLabelling at
+// its lowest part that has none). A refusal leaves both buffers untouched; a success writes from the front a label for each
+// item, answers their count and leaves the rest.
+pub fn solve(rules: &[u64], head: Head, levels: &mut [u64], marks: &mut [u64]) -> Solved
+    ensures { λ r. ⌜ SolveSays head (now (rules .entry)) (held (now (levels .entry)) (now (marks .entry))) (saidSolved r) (held (now (levels .exit)) (now (marks .exit))) ⌝ }
 {
-    if !rules_ok(rules, m, n) {
-        return Solved::BadTable;
+    if !rules_ok(rules, head) {
+        return refused(Fault::BadTable, 0);
     }
-    if levels.len() < n {
-        return Solved::NoRoom;
-    }
-    if marks.len() < n {
-        return Solved::NoRoom;
+    if !has_room(levels, marks, head.items) {
+        return refused(Fault::NoRoom, 0);
     }
     let top = Class::HIGHEST;
-    let mut new_levels = [top.level; 256];
-    let mut new_marks = [top.marks; 256];
-    let outcome = label(rules, m, n, &mut new_levels, &mut new_marks);
+    let mut new_levels = [top.level; MOST_ITEMS];
+    let mut new_marks = [top.marks; MOST_ITEMS];
+    let outcome = label(rules, head, &mut new_levels, &mut new_marks);
     match outcome {
-        Outcome::Without(part) => Solved::NoLabelling(part),
+        Outcome::Without(part) => refused(Fault::NoLabelling, part),
         Outcome::Done => {
-            copy(&new_levels, levels, n);
-            copy(&new_marks, marks, n);
-            Solved::Labelled(n)
+            copy(&new_levels, levels, head.items);
+            copy(&new_marks, marks, head.items);
+            Solved::Labelled(head.items)
         }
     }
+}
+
+// The refusal by a fault at a place.
+fn refused(fault: Fault, place: u64) -> Solved
+    ensures { λ r. ⌜ saidSolved r ≡ refusedBy fault place ⌝ }
+{
+    Solved::Refused(Refusal {
+        fault: fault,
+        place: place,
+    })
 }

@@ -1,17 +1,17 @@
 // Lowering: each item in turn gets the least value that still leaves a labelling. All marks of an item are tried together;
 // the level is tried from the lowest up.
-use super::floors::unheld;
 use super::settle::settle;
-ghost use Prim.Native.Nat.{ℕ, _+_, _≤_, _<_};
-ghost use mathlib.Core.Path.{_≡_};
-ghost use lib.ListN.{length};
-ghost use Rattle.accepts.specs.Accepted.{TableAccepted};
+use classes::Class;
+use refusals::MOST_ITEMS;
+use rules::Head;
+ghost use Prim.Native.Nat.{_+_};
 ghost use Rattle.solver.specs.Solving.{held};
-ghost use Rattle.solver.specs.Lowers.{Copied, Chosen, Ready, LowersMarks, TriesLevel, LowersLevel, Lowers};
+ghost use Rattle.solver.specs.InnerSteps.{Usable};
+ghost use Rattle.solver.specs.InnerLowers.{CopyRoom, Copied, Chosen, ItemUsable, Attemptable, Attempts, LowersMarks, TriesLevel, LowersLevel, Lowers};
 
 // The first n words of a slice, written over the first n of another.
 pub(crate) fn copy(from: &[u64], to: &mut [u64], n: usize)
-    requires { ⌜ (n ≤ length (now from)) × (n ≤ length (now to)) ⌝ }
+    requires { ⌜ CopyRoom n (now from) (now to) ⌝ }
     ensures { λ _. ⌜ Copied n (now (from .entry)) (now (to .entry)) (now (to .exit)) ⌝ }
 {
     let mut i: usize = 0;
@@ -23,7 +23,7 @@ pub(crate) fn copy(from: &[u64], to: &mut [u64], n: usize)
 
 // Puts the old marks of the first n items back where w has a bit, and leaves the present ones elsewhere.
 fn put_back(old: &[u64], w: u64, marks: &mut [u64], n: usize)
-    requires { ⌜ (n ≤ length (now old)) × (n ≤ length (now marks)) ⌝ }
+    requires { ⌜ CopyRoom n (now old) (now marks) ⌝ }
     ensures { λ _. ⌜ Chosen n w (now (old .entry)) (now (marks .entry)) (now (marks .exit)) ⌝ }
 {
     let mut i: usize = 0;
@@ -33,58 +33,91 @@ fn put_back(old: &[u64], w: u64, marks: &mut [u64], n: usize)
     }
 }
 
-// Lowers the marks of item i: each that can go goes, and the others stay with all labels as they were in that mark.
-fn lower_marks(rules: &[u64], m: usize, n: usize, i: usize, levels: &mut [u64], marks: &mut [u64])
-    requires { ⌜ Ready (now rules) m n (held (now levels) (now marks)) × (i < n) ⌝ }
-    ensures { λ _. ⌜ LowersMarks (now (rules .entry)) m n i (i + 1) (held (now (levels .entry)) (now (marks .entry))) (held (now (levels .exit)) (now (marks .exit))) ⌝ }
+// Saves the labels, puts a class at item i and settles. Answers the parts in which no labelling is left.
+fn attempt(
+    rules: &[u64],
+    head: Head,
+    i: usize,
+    to: Class,
+    levels: &mut [u64],
+    marks: &mut [u64],
+    old_levels: &mut [u64],
+    old_marks: &mut [u64],
+) -> Class
+    requires { ⌜ Attemptable head (now rules) i (held (now levels) (now marks)) (held (now «old_levels») (now «old_marks»)) ⌝ }
+    ensures { λ w. ⌜ Attempts head (now (rules .entry)) i to (held (now (levels .entry)) (now (marks .entry))) (held (now (levels .exit)) (now (marks .exit))) (held (now («old_levels» .exit)) (now («old_marks» .exit))) w ⌝ }
 {
-    let mut old_levels = [0u64; 256];
-    let mut old_marks = [0u64; 256];
-    copy(levels, &mut old_levels, n);
-    copy(marks, &mut old_marks, n);
-    marks[i] = 0;
-    settle(rules, m, n, levels, marks);
-    let w = unheld(rules, m, levels, marks);
-    copy(&old_levels, levels, n);
-    put_back(&old_marks, w.marks, marks, n);
+    copy(levels, old_levels, head.items);
+    copy(marks, old_marks, head.items);
+    levels[i] = to.level;
+    marks[i] = to.marks;
+    settle(rules, head, levels, marks)
+}
+
+// Lowers the marks of item i: each that can go goes, and the others stay with all labels as they were in that mark.
+fn lower_marks(rules: &[u64], head: Head, i: usize, levels: &mut [u64], marks: &mut [u64])
+    requires { ⌜ ItemUsable head (now rules) i (held (now levels) (now marks)) ⌝ }
+    ensures { λ _. ⌜ LowersMarks head (now (rules .entry)) i (i + 1) (held (now (levels .entry)) (now (marks .entry))) (held (now (levels .exit)) (now (marks .exit))) ⌝ }
+{
+    let mut old_levels = [0u64; MOST_ITEMS];
+    let mut old_marks = [0u64; MOST_ITEMS];
+    let to = Class::new(levels[i], 0);
+    let w = attempt(
+        rules,
+        head,
+        i,
+        to,
+        levels,
+        marks,
+        &mut old_levels,
+        &mut old_marks,
+    );
+    copy(&old_levels, levels, head.items);
+    put_back(&old_marks, w.marks, marks, head.items);
 }
 
 // Tries level v at item i. Answers yes where a labelling is left, with the labels so lowered, and no with the labels as they were.
 fn try_level(
     rules: &[u64],
-    m: usize,
-    n: usize,
+    head: Head,
     i: usize,
     v: u64,
     levels: &mut [u64],
     marks: &mut [u64],
 ) -> bool
-    requires { ⌜ Ready (now rules) m n (held (now levels) (now marks)) × (i < n) ⌝ }
-    ensures { λ r. ⌜ TriesLevel (now (rules .entry)) m n i v (held (now (levels .entry)) (now (marks .entry))) (held (now (levels .exit)) (now (marks .exit))) r ⌝ }
+    requires { ⌜ ItemUsable head (now rules) i (held (now levels) (now marks)) ⌝ }
+    ensures { λ r. ⌜ TriesLevel head (now (rules .entry)) i v (held (now (levels .entry)) (now (marks .entry))) (held (now (levels .exit)) (now (marks .exit))) r ⌝ }
 {
-    let mut old_levels = [0u64; 256];
-    let mut old_marks = [0u64; 256];
-    copy(levels, &mut old_levels, n);
-    copy(marks, &mut old_marks, n);
-    levels[i] = v;
-    settle(rules, m, n, levels, marks);
-    let w = unheld(rules, m, levels, marks);
-    copy(&old_marks, marks, n);
+    let mut old_levels = [0u64; MOST_ITEMS];
+    let mut old_marks = [0u64; MOST_ITEMS];
+    let to = Class::new(v, marks[i]);
+    let w = attempt(
+        rules,
+        head,
+        i,
+        to,
+        levels,
+        marks,
+        &mut old_levels,
+        &mut old_marks,
+    );
+    copy(&old_marks, marks, head.items);
     if w.level == 0 {
         return true;
     }
-    copy(&old_levels, levels, n);
+    copy(&old_levels, levels, head.items);
     false
 }
 
 // Lowers the level of item i to the least that leaves a labelling.
-fn lower_level(rules: &[u64], m: usize, n: usize, i: usize, levels: &mut [u64], marks: &mut [u64])
-    requires { ⌜ Ready (now rules) m n (held (now levels) (now marks)) × (i < n) ⌝ }
-    ensures { λ _. ⌜ LowersLevel (now (rules .entry)) m n i (i + 1) (held (now (levels .entry)) (now (marks .entry))) (held (now (levels .exit)) (now (marks .exit))) ⌝ }
+fn lower_level(rules: &[u64], head: Head, i: usize, levels: &mut [u64], marks: &mut [u64])
+    requires { ⌜ ItemUsable head (now rules) i (held (now levels) (now marks)) ⌝ }
+    ensures { λ _. ⌜ LowersLevel head (now (rules .entry)) i (i + 1) (held (now (levels .entry)) (now (marks .entry))) (held (now (levels .exit)) (now (marks .exit))) ⌝ }
 {
+    let most = levels[i];
     let mut v: u64 = 0;
-    while v < levels[i] {
-        if try_level(rules, m, n, i, v, levels, marks) {
+    while v < most {
+        if try_level(rules, head, i, v, levels, marks) {
             return;
         }
         v += 1;
@@ -92,22 +125,22 @@ fn lower_level(rules: &[u64], m: usize, n: usize, i: usize, levels: &mut [u64], 
 }
 
 // Lowers item i in every part.
-fn lower_item(rules: &[u64], m: usize, n: usize, i: usize, levels: &mut [u64], marks: &mut [u64])
-    requires { ⌜ Ready (now rules) m n (held (now levels) (now marks)) × (i < n) ⌝ }
-    ensures { λ _. ⌜ Lowers (now (rules .entry)) m n i (i + 1) (held (now (levels .entry)) (now (marks .entry))) (held (now (levels .exit)) (now (marks .exit))) ⌝ }
+fn lower_item(rules: &[u64], head: Head, i: usize, levels: &mut [u64], marks: &mut [u64])
+    requires { ⌜ ItemUsable head (now rules) i (held (now levels) (now marks)) ⌝ }
+    ensures { λ _. ⌜ Lowers head (now (rules .entry)) i (i + 1) (held (now (levels .entry)) (now (marks .entry))) (held (now (levels .exit)) (now (marks .exit))) ⌝ }
 {
-    lower_marks(rules, m, n, i, levels, marks);
-    lower_level(rules, m, n, i, levels, marks);
+    lower_marks(rules, head, i, levels, marks);
+    lower_level(rules, head, i, levels, marks);
 }
 
 // Lowers every item in turn.
-pub(crate) fn lower_all(rules: &[u64], m: usize, n: usize, levels: &mut [u64], marks: &mut [u64])
-    requires { ⌜ Ready (now rules) m n (held (now levels) (now marks)) ⌝ }
-    ensures { λ _. ⌜ Lowers (now (rules .entry)) m n 0 n (held (now (levels .entry)) (now (marks .entry))) (held (now (levels .exit)) (now (marks .exit))) ⌝ }
+pub(crate) fn lower_all(rules: &[u64], head: Head, levels: &mut [u64], marks: &mut [u64])
+    requires { ⌜ Usable head (now rules) (held (now levels) (now marks)) ⌝ }
+    ensures { λ _. ⌜ Lowers head (now (rules .entry)) 0 (head .items) (held (now (levels .entry)) (now (marks .entry))) (held (now (levels .exit)) (now (marks .exit))) ⌝ }
 {
     let mut item: usize = 0;
-    while item < n {
-        lower_item(rules, m, n, item, levels, marks);
+    while item < head.items {
+        lower_item(rules, head, item, levels, marks);
         item += 1;
     }
 }

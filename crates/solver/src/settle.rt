@@ -1,17 +1,17 @@
 // Settling: labels are lowered until every cap and every follow is met. What is left is the greatest labelling below the
 // labels that it starts from, in every part by itself.
+use super::floors::unheld;
 use classes::Class;
 use rules::CAP;
 use rules::FLOOR;
+use rules::Head;
 use rules::left_join;
 use rules::rule_at;
 ghost use mathlib.Core.Path.{_≡_};
 ghost use Prim.Native.Nat.{_+_, _<_};
-ghost use Rattle.rules.specs.Table.{ruleAt};
-ghost use Rattle.accepts.specs.Accepted.{RuleAccepted, TableAccepted};
 ghost use Rattle.labels.specs.Labels.{Room};
 ghost use Rattle.solver.specs.Solving.{held};
-ghost use Rattle.solver.specs.Steps.{LowersItem, PushesRule, Sweeps, Settles, meantAt, turnOf};
+ghost use Rattle.solver.specs.InnerSteps.{Named, Usable, LowersItem, PushesRule, Sweeps, Settles, meantAt, sweepTurn};
 
 // Lowers item i to the common part of its label and a bound. Answers whether that changed anything.
 fn lower(levels: &mut [u64], marks: &mut [u64], i: usize, bound: Class) -> bool
@@ -29,9 +29,9 @@ fn lower(levels: &mut [u64], marks: &mut [u64], i: usize, bound: Class) -> bool
 }
 
 // Lowers the item that rule r bounds from above to what the rule allows. Answers whether that changed anything.
-fn push(rules: &[u64], n: usize, r: usize, levels: &mut [u64], marks: &mut [u64]) -> bool
-    requires { ⌜ Room n (now levels) (now marks) × RuleAccepted n (ruleAt (now rules) r) ⌝ }
-    ensures { λ x. ⌜ PushesRule n (meantAt (now (rules .entry)) r) (held (now (levels .entry)) (now (marks .entry))) (held (now (levels .exit)) (now (marks .exit))) x ⌝ }
+fn push(rules: &[u64], r: usize, levels: &mut [u64], marks: &mut [u64]) -> bool
+    requires { ⌜ Named (meantAt (now rules) r) (held (now levels) (now marks)) ⌝ }
+    ensures { λ x. ⌜ PushesRule (meantAt (now (rules .entry)) r) (held (now (levels .entry)) (now (marks .entry))) (held (now (levels .exit)) (now (marks .exit))) x ⌝ }
 {
     let rule = rule_at(rules, r);
     if rule.kind == CAP {
@@ -49,42 +49,36 @@ fn push(rules: &[u64], n: usize, r: usize, levels: &mut [u64], marks: &mut [u64]
 // The rule of the k-th turn: from the first rule on, or back from the last.
 fn turn(back: bool, m: usize, k: usize) -> usize
     requires { ⌜ k < m ⌝ }
-    ensures { λ r. ⌜ r ≡ turnOf back m k ⌝ }
+    ensures { λ r. ⌜ r ≡ sweepTurn back m k ⌝ }
 {
     if back { m - 1 - k } else { k }
 }
 
 // Pushes every rule once. Answers whether that changed anything.
-fn sweep(
-    rules: &[u64],
-    m: usize,
-    n: usize,
-    back: bool,
-    levels: &mut [u64],
-    marks: &mut [u64],
-) -> bool
-    requires { ⌜ Room n (now levels) (now marks) × TableAccepted (now rules) m n ⌝ }
-    ensures { λ r. ⌜ Sweeps (now (rules .entry)) m n (held (now (levels .entry)) (now (marks .entry))) (held (now (levels .exit)) (now (marks .exit))) r ⌝ }
+fn sweep(rules: &[u64], head: Head, back: bool, levels: &mut [u64], marks: &mut [u64]) -> bool
+    requires { ⌜ Usable head (now rules) (held (now levels) (now marks)) ⌝ }
+    ensures { λ r. ⌜ Sweeps head (now (rules .entry)) (held (now (levels .entry)) (now (marks .entry))) (held (now (levels .exit)) (now (marks .exit))) r ⌝ }
 {
     let mut changed = false;
     let mut k: usize = 0;
-    while k < m {
-        let r = turn(back, m, k);
-        let fell = push(rules, n, r, levels, marks);
+    while k < head.rules {
+        let r = turn(back, head.rules, k);
+        let fell = push(rules, r, levels, marks);
         changed = changed | fell;
         k += 1;
     }
     changed
 }
 
-// Lowers labels until every cap and every follow is met. Sweeps go forward and back in turn, so that a chain of follows in
-// either order is one sweep.
-pub(crate) fn settle(rules: &[u64], m: usize, n: usize, levels: &mut [u64], marks: &mut [u64])
-    requires { ⌜ Room n (now levels) (now marks) × TableAccepted (now rules) m n ⌝ }
-    ensures { λ _. ⌜ Settles (now (rules .entry)) m n (held (now (levels .entry)) (now (marks .entry))) (held (now (levels .exit)) (now (marks .exit))) ⌝ }
+// Lowers labels until every cap and every follow is met, and answers the parts in which some floor is then not met. Sweeps go
+// forward and back in turn, so that a chain of follows in either order is one sweep.
+pub(crate) fn settle(rules: &[u64], head: Head, levels: &mut [u64], marks: &mut [u64]) -> Class
+    requires { ⌜ Usable head (now rules) (held (now levels) (now marks)) ⌝ }
+    ensures { λ w. ⌜ Settles head (now (rules .entry)) (held (now (levels .entry)) (now (marks .entry))) (held (now (levels .exit)) (now (marks .exit))) w ⌝ }
 {
     let mut back = false;
-    while sweep(rules, m, n, back, levels, marks) {
+    while sweep(rules, head, back, levels, marks) {
         back = !back;
     }
+    unheld(rules, head, levels, marks)
 }

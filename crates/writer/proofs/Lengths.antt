@@ -7,20 +7,20 @@ use Prim.Native.Nat.{ℕ, zero, suc, _+_, _*_, _≤_, _<_}
 use native.Mathlib.Numerals.{add-one}
 use native.Mathlib.Omega.{arith}
 use lib.ListN.{length, getD, length-append}
+use Rattle.scans.specs.Ascii.{lf, colon}
 use Rattle.items.specs.Table.{nameOf, ItemsOk}
 use Rattle.items.proofs.Table.{nameLen-most, nameOf-length}
 use Rattle.laws.specs.First.{AllBelow}
-use Rattle.labels.specs.Labels.{LevelInRange}
-use Rattle.labels.specs.Labels.{labelsIn}
+use Rattle.labels.specs.Labels.{labelsIn, LevelInRange}
 use Rattle.keys.specs.Keys.{keyText}
 use Rattle.keys.specs.declared.Key.{Key}
 use Rattle.tokens.specs.Numbers.{decimalLen}
 use Rattle.tokens.specs.Tokens.{countText, classText}
 use Rattle.tokens.proofs.Values.{digits-length, decimal-most, decimal-short}
 use Rattle.tokens.proofs.Tokens.{class-length}
-use Rattle.writer.specs.Texts.{pieces, formLine, endLine, labelKey, labelLine, labelsText}
+use Rattle.writer.specs.Texts.{pieces, formLine, endLine, labelKey, labelName, labelLine, labelsText}
 use Rattle.refusals.specs.Sizes.{mostText}
-use Rattle.writer.proofs.Growing.{pieces-none, pieces-snoc}
+use Rattle.writer.proofs.Pieces.{pieces-none, pieces-snoc}
 
 -- Pieces of at most 43 bytes each.
 pub pieces-most : (f : ℕ → List ℕ) (n : ℕ) → ((k : ℕ) → k < n → length (f k) ≤ 43) → length (pieces f 0 n) ≤ n * 43
@@ -38,7 +38,7 @@ pub end-most : (count : ℕ) → length (endLine count) ≤ 10
 end-most count =
     omega (
       arith,
-      length-append (keyText Key.End ++ countText count) (10 ∷ []),
+      length-append (keyText Key.End ++ countText count) (lf ∷ []),
       length-append (keyText Key.End) (countText count),
       digits-length 10 (decimalLen count) count,
       decimal-most count,
@@ -48,8 +48,9 @@ pub label-most : (t levels marks : List ℕ) (i : ℕ) → LevelInRange levels i
 label-most t levels marks i h =
     omega (
       arith,
-      length-append (labelKey ++ nameOf t i ++ 58 ∷ classText (labelsIn levels marks i)) (10 ∷ []),
-      length-append (labelKey ++ nameOf t i) (58 ∷ classText (labelsIn levels marks i)),
+      length-append (labelName t i ++ classText (labelsIn levels marks i)) (lf ∷ []),
+      length-append (labelName t i) (classText (labelsIn levels marks i)),
+      length-append (labelKey ++ nameOf t i) (colon ∷ []),
       length-append labelKey (nameOf t i),
       nameOf-length t i,
       nameLen-most t i,

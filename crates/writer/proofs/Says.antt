@@ -1,112 +1,125 @@
 -- What writing answers, one law for each answer that the code can give. They rest on the laws of growing text and of what a put leaves in a
 -- buffer.
 -- Assumes nothing.
-use mathlib.Core.Path.{_≡_}
-use mathlib.Core.List.{List}
-use Prim.Native.Nat.{ℕ, _+_, _-_, _≤_, _<_}
-use native.Mathlib.Nat.{zero-add, sub-zero}
+use mathlib.Core.Path.{_≡_, sym, ap, subst, _∙_}
+use mathlib.Core.Bool.{Bool, true, false, not}
+use mathlib.Core.List.{List, [], _∷_}
+use Prim.Native.Nat.{ℕ, _+_, _≤_, _<_}
 use native.Mathlib.Decide.{decLe}
 use native.Mathlib.Omega.{arith}
-use lib.ListN.{length, take, drop}
-use Rattle.items.specs.Table.{ItemsOk}
+use lib.ListN.{length, take, replicate, length-replicate}
+use lib.Seq.{length-take-le}
 use Rattle.laws.specs.First.{Sought}
-use Rattle.labels.specs.Labels.{LevelInRange, Room}
-use Rattle.refusals.specs.declared.Fault.{Fault}
-use Rattle.accepts.specs.Accepted.{TableAccepted}
-use Rattle.puts.specs.Writing.{Put}
-use Rattle.puts.proofs.Placed.{put-buffer}
-use Rattle.laws.proofs.Over.{take-over}
-use Rattle.writer.specs.declared.Written.{Written}
-use Rattle.writer.specs.Texts.{bookText, labelsText}
+use Rattle.laws.specs.Over.{over}
+use Rattle.laws.specs.Tells.{Tells}
+use Rattle.laws.proofs.Tells.{told-no, told-yes}
+use Rattle.refusals.specs.Said.{Said, success, refusedBy}
 use Rattle.refusals.specs.Sizes.{mostText}
-use Rattle.writer.specs.Pushing.{Grown}
-use Rattle.writer.specs.Writing.{CopySays, roomless, copied, WriteSays, bad-table, too-long, no-room, written}
+use Rattle.refusals.specs.declared.Fault.{Fault}
+use Rattle.items.specs.Table.{ItemsOk}
+use Rattle.labels.specs.Labels.{LevelInRange, Room}
+use Rattle.rules.specs.declared.Head.{Head}
+use Rattle.accepts.specs.Accepted.{TableAccepted}
 use Rattle.accepts.specs.Tables.{Tables}
-use Rattle.writer.specs.Writing.{Labels, LabelsSays, bad-items, few-labels, bad-label, short-buffer, labelled}
-use Rattle.writer.proofs.Lengths.{labels-short}
+use Rattle.puts.specs.Writing.{Put}
+use Rattle.puts.specs.InnerGrowing.{Grown, Front}
+use Rattle.puts.proofs.Placed.{put-buffer, put-next, put-untouched, put-full, put-sized}
+use Rattle.puts.proofs.Growing.{grown-front, grown-over}
+use Rattle.writer.specs.Texts.{bookText, labelsText}
+use Rattle.writer.specs.Writing.{WriteSays, bad-table, too-long, no-room, written}
+use Rattle.writer.specs.Writing.{LabelsSays, bad-items, few-labels, bad-label, short-buffer, labelled}
+use Rattle.writer.specs.InnerTexts.{LabelsReady, LabelsMade, CopySays, roomless, copied}
 
--- The text x has room in a buffer for the longest text: it has r bytes, and stands at the front of the buffer d.
-pub record Held (x d : List ℕ) (r : ℕ) : Type 0 where
-  pub short : length x ≤ mostText
-  pub len : r ≡ length x
-  pub text : take (r - 0) (drop 0 d) ≡ x
+-- The buffer in which a text is made, which has room for the longest.
+abbrev pub blank : List ℕ
+blank = replicate mostText 0
 
-module _ {e x d : List ℕ} {r : ℕ} (g : Grown e 0 x d r) (size : length e ≡ mostText) where
-  pub text-held : r ≤ mostText → Held x d r
-  text-held h = held (decLe (length x) mostText)
+blank-size : length blank ≡ mostText
+blank-size = length-replicate {A = ℕ} mostText 0
+
+-- A text copied to the front of a buffer: p is the place that the put answered.
+module _ {x out out′ : List ℕ} {p : ℕ} (put : Put out 0 x out′ p) where
+  pub says-roomless : length out′ < p → {s : Said} → s ≡ refusedBy Fault.NoRoom 0 → CopySays x out s out′
+  says-roomless h e = rw (e, put-untouched put none) (roomless (omega (arith, none)))
     where
-      held : Dec (length x ≤ mostText) → Held x d r
-      held (no s) = absurd (omega (arith, g .full (omega arith) (omega arith)))
-      held (yes s) = record { short = s; len = long; text = rw (g .there room, long, sub-zero) (rw zero-add at (take-over e 0 x room)) }
-        where
-          room : 0 + length x ≤ length e
-          room = omega arith
+      cases : Dec (0 + length x ≤ length out) → length out < 0 + length x
+      cases (yes room) = absurd (omega (arith, put-next put room, put-sized put))
+      cases (no room) = omega arith
 
-          long : r ≡ length x
-          long = omega (arith, g .next room)
+      none : length out < 0 + length x
+      none = cases (decLe (0 + length x) (length out))
 
-  pub text-over : mostText < r → mostText < length x
-  text-over h = longer (decLe (length x) mostText)
+  pub says-there : p ≤ length out′ → CopySays x out (success 0 (p ∷ [])) out′
+  says-there h = rw (put-buffer put room, len) (copied (omega (arith, room)))
     where
-      longer : Dec (length x ≤ mostText) → mostText < length x
-      longer (no s) = omega arith
-      longer (yes s) = absurd (omega (arith, g .next (omega arith)))
+      cases : Dec (0 + length x ≤ length out) → 0 + length x ≤ length out
+      cases (yes room) = room
+      cases (no room) = absurd (omega (arith, put-full put (omega arith), put-sized put))
 
--- A text copied to the front of another buffer.
-pub copy-there : {x out out′ : List ℕ} {p : ℕ} → length x ≤ length out → Put out 0 x out′ p → CopySays x out (Written.Text (length x)) out′
-copy-there room put = rw (put-buffer put (omega arith)) (copied room)
+      room : 0 + length x ≤ length out
+      room = cases (decLe (0 + length x) (length out))
+
+      len : p ≡ length x
+      len = omega (arith, put-next put room)
 
 -- What writing a rulebook answers.
-module _ {t : List ℕ} {n : ℕ} {w : List ℕ} {m : ℕ} where
-  module _ {out : List ℕ} where
-    pub says-bad-items : (ItemsOk t n → ⊥) → WriteSays t n w m out (Written.Refused Fault.BadTable 0) out
-    says-bad-items bad = bad-table (λ p. bad (p .items))
+module _ {h : Head} {t w : List ℕ} where
+  pub says-bad-items : {b : Bool} → Tells (ItemsOk t (h .items)) b → not b ≡ true → {out : List ℕ} {s : Said} → s ≡ refusedBy Fault.BadTable 0
+      → WriteSays h t w out s out
+  says-bad-items told failed e = rw e (bad-table (λ p. told-no told failed (p .items)))
 
-    pub says-bad-rules : (TableAccepted w m n → ⊥) → WriteSays t n w m out (Written.Refused Fault.BadTable 0) out
-    says-bad-rules bad = bad-table (λ p. bad (p .rules))
+  pub says-bad-rules : {b : Bool} → Tells (TableAccepted h w) b → not b ≡ true → {out : List ℕ} {s : Said} → s ≡ refusedBy Fault.BadTable 0
+      → WriteSays h t w out s out
+  says-bad-rules told failed e = rw e (bad-table (λ p. told-no told failed (p .rules)))
 
-  pub tables-right : ItemsOk t n → TableAccepted w m n → Tables t n w m
-  tables-right items rules = record { items = items; rules = rules }
+  module _ {a b : Bool} (items : Tells (ItemsOk t (h .items)) a) (items-pass : not a ≡ false) (rules : Tells (TableAccepted h w) b) (rules-pass : not b ≡ false) where
+    pub tables-right : Tables h t w
+    tables-right = record { items = told-yes items items-pass; rules = told-yes rules rules-pass }
 
-  module _ (tables : Tables t n w m) {e d : List ℕ} {r : ℕ} (g : Grown e 0 (bookText t n w m) d r) (size : length e ≡ mostText) {out : List ℕ} where
-    pub says-too-long : mostText < r → WriteSays t n w m out (Written.Refused Fault.TooLong 0) out
-    says-too-long h = too-long tables (text-over g size h)
+    module _ {d : List ℕ} {r : ℕ} (g : Grown blank 0 (bookText h t w) d r) where
+      pub says-too-long : mostText < r → {out : List ℕ} {s : Said} → s ≡ refusedBy Fault.TooLong 0 → WriteSays h t w out s out
+      says-too-long over e = rw e (too-long tables-right (omega (arith, grown-over g (omega (arith, blank-size)), blank-size)))
 
-    pub says-copied : r ≤ mostText → {a : Written} {out′ : List ℕ} → CopySays (take (r - 0) (drop 0 d)) out a out′ → WriteSays t n w m out a out′
-    says-copied fits copy = let held = text-held g size fits in says (held .short) (rw (held .text) at copy)
-      where
-        says : length (bookText t n w m) ≤ mostText → {a : Written} {out′ : List ℕ} → CopySays (bookText t n w m) out a out′ → WriteSays t n w m out a out′
-        says short (roomless h) = no-room tables short h
-        says short (copied h) = written tables short h
+      pub text-count : r ≤ mostText → r ≡ length (take r d)
+      text-count fits = sym (length-take-le r d (omega (arith, g .sized, blank-size)))
+
+      pub says-copied : r ≤ mostText → {out : List ℕ} {s : Said} {out′ : List ℕ} → CopySays (take r d) out s out′ → WriteSays h t w out s out′
+      says-copied fits copy = says (rw (front .text) at copy)
+        where
+          front : Front (bookText h t w) d r
+          front = grown-front g (omega (arith, blank-size))
+
+          short : length (bookText h t w) ≤ mostText
+          short = omega (arith, front .len)
+
+          says : {out : List ℕ} {s : Said} {out′ : List ℕ} → CopySays (bookText h t w) out s out′ → WriteSays h t w out s out′
+          says (roomless l) = no-room tables-right short l
+          says (copied l) = written tables-right short l
 
 -- What writing a labelling answers; `bad` is what the search for a bad label tells.
-module _ {t : List ℕ} {n : ℕ} {levels marks out : List ℕ} where
-  pub says-bad-names : (ItemsOk t n → ⊥) → LabelsSays t n levels marks out (Written.Refused Fault.BadTable 0) out
-  says-bad-names bad = bad-items bad
+module _ {t : List ℕ} {n : ℕ} {levels marks : List ℕ} where
+  pub says-bad-names : {b : Bool} → Tells (ItemsOk t n) b → not b ≡ true → {out : List ℕ} {s : Said} → s ≡ refusedBy Fault.BadTable 0
+      → LabelsSays t n levels marks out s out
+  says-bad-names told failed e = rw e (bad-items (told-no told failed))
 
-  module _ (items : ItemsOk t n) where
-    pub says-few-labels : (Room n levels marks → ⊥) → LabelsSays t n levels marks out (Written.Refused Fault.NoRoom 0) out
-    says-few-labels short = few-labels items short
+  module _ {a : Bool} (items : Tells (ItemsOk t n) a) (items-pass : not a ≡ false) {b : Bool} (room : Tells (Room n levels marks) b) where
+    pub says-few-labels : not b ≡ true → {out : List ℕ} {s : Said} → s ≡ refusedBy Fault.NoRoom 0 → LabelsSays t n levels marks out s out
+    says-few-labels failed e = rw e (few-labels (told-yes items items-pass) (told-no room failed))
 
-    module _ (room : Room n levels marks) {i : ℕ} (bad : Sought (LevelInRange levels) n i) where
-      pub says-bad-label : i < n → LabelsSays t n levels marks out (Written.Refused Fault.BadLabel i) out
-      says-bad-label h = bad-label items room (bad .found h)
+    module _ (room-pass : not b ≡ false) {i : ℕ} (bad : Sought (LevelInRange levels) n i) where
+      pub says-bad-label : i < n → {out : List ℕ} {s : Said} → s ≡ refusedBy Fault.BadLabel i → LabelsSays t n levels marks out s out
+      says-bad-label l e = rw e (bad-label (told-yes items items-pass) (told-yes room room-pass) (bad .found l))
 
--- The text of a labelling in a buffer for the longest text.
-pub labels-held : {t : List ℕ} {n : ℕ} {levels marks : List ℕ} → Labels t n levels marks → {e d : List ℕ} {r : ℕ} → Grown e 0 (labelsText t n levels marks) d r
-    → length e ≡ mostText → Held (labelsText t n levels marks) d r
-labels-held {levels = levels} {marks = marks} labels g size =
-    let short = labels-short levels marks (labels .items) (labels .range) in
-    text-held g size (omega (arith, g .next (omega arith), short))
+      pub labels-ready : n ≤ i → LabelsReady t n levels marks blank
+      labels-ready none = record {
+        labels = record { items = told-yes items items-pass; room = told-yes room room-pass; range = bad .nowhere none };
+        size = blank-size;
+      }
 
-pub labels-right : {t : List ℕ} {n : ℕ} {levels marks : List ℕ} {i : ℕ} → ItemsOk t n → Room n levels marks → Sought (LevelInRange levels) n i → n ≤ i
-    → Labels t n levels marks
-labels-right items room bad h = record { items = items; room = room; range = bad .nowhere h }
-
-pub says-labelled : {t : List ℕ} {n : ℕ} {levels marks : List ℕ} → Labels t n levels marks → {d : List ℕ} {r : ℕ} → Held (labelsText t n levels marks) d r
-    → {out : List ℕ} {a : Written} {out′ : List ℕ} → CopySays (take (r - 0) (drop 0 d)) out a out′ → LabelsSays t n levels marks out a out′
-says-labelled {t} {n} {levels} {marks} labels held copy = says (rw (held .text) at copy)
+pub says-labelled : {t : List ℕ} {n : ℕ} {levels marks d : List ℕ} {r : ℕ} {out : List ℕ} {s : Said} {out′ : List ℕ} → LabelsMade t n levels marks d r
+    → CopySays (take r d) out s out′ → LabelsSays t n levels marks out s out′
+says-labelled {t} {n} {levels} {marks} made copy = says (rw (made .front .text) at copy)
   where
-    says : {out : List ℕ} {a : Written} {out′ : List ℕ} → CopySays (labelsText t n levels marks) out a out′ → LabelsSays t n levels marks out a out′
-    says (roomless h) = short-buffer labels h
-    says (copied h) = labelled labels h
+    says : {out : List ℕ} {s : Said} {out′ : List ℕ} → CopySays (labelsText t n levels marks) out s out′ → LabelsSays t n levels marks out s out′
+    says (roomless l) = short-buffer (made .labels) l
+    says (copied l) = labelled (made .labels) l

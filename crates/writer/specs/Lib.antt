@@ -1,4 +1,5 @@
--- What the contracts of `writer` cite: the text of a rulebook and of a labelling, and what writing one answers.
+-- What the contracts of `writer` cite: Texts is the text of a rulebook and of a labelling, Writing what writing one answers; InnerTexts is what only the
+-- functions within this crate speak of.
 pub mod Texts
-pub mod Pushing
 pub mod Writing
+pub mod InnerTexts

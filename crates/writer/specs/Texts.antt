@@ -1,13 +1,15 @@
--- The text of tables: of a rulebook, and of a labelling. The item table is t with n items, the rule table w with m rules.
+-- The text of tables: of a rulebook, and of a labelling. The item table is t, the rule table w.
 -- Assumes nothing.
 use mathlib.Core.Bool.{cond}
 use mathlib.Core.List.{List, [], _∷_, _++_}
 use Prim.Native.Nat.{ℕ, zero, suc, _+_}
 use lib.Dec.{ltb}
+use Rattle.scans.specs.Ascii.{lf, plus, digit1, colon}
 use Rattle.items.specs.Table.{nameOf}
-use Rattle.rules.specs.Record.{byKind, leftItem}
 use Rattle.labels.specs.Labels.{labelsIn}
+use Rattle.rules.specs.Record.{byKind, leftItem}
 use Rattle.rules.specs.Table.{ruleAt}
+use Rattle.rules.specs.declared.Head.{Head}
 use Rattle.rules.specs.declared.Rule.{Rule}
 use Rattle.keys.specs.Keys.{keyText}
 use Rattle.keys.specs.declared.Key.{Key}
@@ -20,18 +22,21 @@ pieces piece k (suc c) = piece k ++ pieces piece (suc k) c
 
 -- "form=1" and "end=COUNT", each with its LF.
 abbrev pub formLine : List ℕ
-formLine = keyText Key.Form ++ 49 ∷ 10 ∷ []
+formLine = keyText Key.Form ++ digit1 ∷ lf ∷ []
 
 abbrev pub endLine : ℕ → List ℕ
-endLine count = keyText Key.End ++ countText count ++ 10 ∷ []
+endLine count = keyText Key.End ++ countText count ++ lf ∷ []
 
--- "item=NAME"
+-- "item=NAME", and the lines of n items.
 abbrev pub itemLine : List ℕ → ℕ → List ℕ
-itemLine t i = keyText Key.Item ++ nameOf t i ++ 10 ∷ []
+itemLine t i = keyText Key.Item ++ nameOf t i ++ lf ∷ []
 
--- A left name with the sign behind it: a plus sign, 43, and a colon, 58, behind the last.
+abbrev pub itemLines : List ℕ → ℕ → List ℕ
+itemLines t n = pieces (itemLine t) 0 n
+
+-- A left name with the sign behind it: a plus sign, and a colon behind the last.
 abbrev pub leftPiece : List ℕ → Rule → ℕ → List ℕ
-leftPiece t x k = nameOf t (leftItem x k) ++ cond (ltb (k + 1) (x .count)) 43 58 ∷ []
+leftPiece t x k = nameOf t (leftItem x k) ++ cond (ltb (k + 1) (x .count)) plus colon ∷ []
 
 abbrev pub leftText : List ℕ → Rule → List ℕ
 leftText t x = pieces (leftPiece t x) 0 (x .count)
@@ -43,21 +48,30 @@ rightText t x = byKind (x .kind) (classText (x .class)) (classText (x .class)) (
 abbrev pub ruleKey : Rule → Key
 ruleKey x = byKind (x .kind) Key.Cap Key.Floor Key.Follow
 
--- "cap=NAME:CLASS", "floor=NAME+..+NAME:CLASS" and "follow=NAME+..+NAME:NAME"
+-- "cap=NAME:CLASS", "floor=NAME+..+NAME:CLASS" and "follow=NAME+..+NAME:NAME", and the lines of m rules in table order.
 abbrev pub ruleLine : List ℕ → Rule → List ℕ
-ruleLine t x = keyText (ruleKey x) ++ leftText t x ++ rightText t x ++ 10 ∷ []
+ruleLine t x = keyText (ruleKey x) ++ leftText t x ++ rightText t x ++ lf ∷ []
 
--- A rulebook: its form line, its items, its rules in table order, and its end line with the lines before it.
-unfoldable pub bookText : List ℕ → ℕ → List ℕ → ℕ → List ℕ
-bookText t n w m = formLine ++ pieces (itemLine t) 0 n ++ pieces (λ r. ruleLine t (ruleAt w r)) 0 m ++ endLine (1 + n + m)
+abbrev pub ruleLines : List ℕ → List ℕ → ℕ → List ℕ
+ruleLines t w m = pieces (λ r. ruleLine t (ruleAt w r)) 0 m
+
+-- A rulebook: its form line, its items, its rules, and its end line with the lines before it.
+unfoldable pub bookText : Head → List ℕ → List ℕ → List ℕ
+bookText h t w = formLine ++ itemLines t (h .items) ++ ruleLines t w (h .rules) ++ endLine (1 + h .items + h .rules)
 
 -- "one line `label=NAME:CLASS` for each item in book order"
 abbrev pub labelKey : List ℕ
 labelKey = 108 ∷ 97 ∷ 98 ∷ 101 ∷ 108 ∷ 61 ∷ []
 
+abbrev pub labelName : List ℕ → ℕ → List ℕ
+labelName t i = labelKey ++ nameOf t i ++ colon ∷ []
+
 abbrev pub labelLine : List ℕ → List ℕ → List ℕ → ℕ → List ℕ
-labelLine t levels marks i = labelKey ++ nameOf t i ++ 58 ∷ classText (labelsIn levels marks i) ++ 10 ∷ []
+labelLine t levels marks i = labelName t i ++ classText (labelsIn levels marks i) ++ lf ∷ []
+
+abbrev pub labelLines : List ℕ → ℕ → List ℕ → List ℕ → List ℕ
+labelLines t n levels marks = pieces (labelLine t levels marks) 0 n
 
 -- A labelling: "`form=1`, one line .. for each item in book order, and `end=COUNT` with the lines before it".
 unfoldable pub labelsText : List ℕ → ℕ → List ℕ → List ℕ → List ℕ
-labelsText t n levels marks = formLine ++ pieces (labelLine t levels marks) 0 n ++ endLine (1 + n)
+labelsText t n levels marks = formLine ++ labelLines t n levels marks ++ endLine (1 + n)

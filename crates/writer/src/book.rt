@@ -1,40 +1,57 @@
-// The text of a rulebook, line by line. Each function puts its text at the end of a growing text and answers the place after it, or a place
-// past every text where it has no room.
-use super::push::push;
-use super::push::push_class;
-use super::push::push_count;
-use super::push::push_key;
-use super::push::push_name;
+// The text of a rulebook, line by line. Each function puts its text at a place of a buffer and answers the place after it, or a place past the
+// buffer's end where it has no room.
+use items::NAME_ROOM;
 use keys::Key;
+use puts::put;
+use puts::put_class;
+use puts::put_count;
+use puts::put_key;
 use rules::CAP;
 use rules::FLOOR;
 use rules::FOLLOW;
+use rules::Head;
 use rules::Rule;
+use rules::rule_at;
+use scans::COLON;
+use scans::DIGIT_1;
+use scans::LF;
+use scans::PLUS;
 ghost use mathlib.Core.Path.{_≡_};
 ghost use mathlib.Core.List.{_++_};
-ghost use Prim.Native.Nat.{_+_, _<_};
-ghost use Rattle.items.specs.Table.{NameAt, ItemsOk};
+ghost use Rattle.items.specs.Table.{nameOf, NameAt, ItemsOk};
 ghost use Rattle.rules.specs.Record.{byKind};
-ghost use Rattle.rules.specs.Table.{ruleAt};
-ghost use Rattle.keys.specs.Keys.{keyText};
-ghost use Rattle.writer.specs.Texts.{pieces, formLine, endLine, itemLine, leftPiece, leftText, rightText, ruleKey, ruleLine, bookText};
-ghost use Rattle.writer.specs.Pushing.{Grown, Named};
 ghost use Rattle.accepts.specs.Tables.{Tables};
+ghost use Rattle.keys.specs.Keys.{keyText};
+ghost use Rattle.puts.specs.Writing.{Put};
+ghost use Rattle.puts.specs.InnerGrowing.{Grown};
+ghost use Rattle.writer.specs.Texts.{formLine, endLine, itemLine, itemLines, leftPiece, leftText, rightText, ruleKey, ruleLine, ruleLines, bookText};
+ghost use Rattle.writer.specs.InnerTexts.{Named, NamedAt};
 
 // The form line.
 pub(crate) fn form_line(out: &mut [u8], at: usize) -> usize
     ensures { λ r. ⌜ Grown (now (out .entry)) at formLine (now (out .exit)) r ⌝ }
 {
-    push(b"form=1\n", out, at)
+    let value = put_key(Key::Form, out, at);
+    put(&[DIGIT_1, LF], out, value)
 }
 
 // The end line with its count.
 pub(crate) fn end_line(count: u64, out: &mut [u8], at: usize) -> usize
     ensures { λ r. ⌜ Grown (now (out .entry)) at (endLine count) (now (out .exit)) r ⌝ }
 {
-    let value = push_key(Key::End, out, at);
-    let lf = push_count(count, out, value);
-    push(b"\n", out, lf)
+    let value = put_key(Key::End, out, at);
+    let lf = put_count(count, out, value);
+    put(&[LF], out, lf)
+}
+
+// The name in entry i of an item table.
+pub(crate) fn put_name(items: &[u8], i: usize, out: &mut [u8], at: usize) -> usize
+    requires { ⌜ NameAt (now items) i ⌝ }
+    ensures { λ r. ⌜ Put (now (out .entry)) at (nameOf (now (items .entry)) i) (now (out .exit)) r ⌝ }
+{
+    let len = items::name_len(items, i);
+    let from = i * NAME_ROOM;
+    put(&items[from..from + len], out, at)
 }
 
 // The line of item i.
@@ -42,22 +59,22 @@ fn item_line(items: &[u8], i: usize, out: &mut [u8], at: usize) -> usize
     requires { ⌜ NameAt (now items) i ⌝ }
     ensures { λ r. ⌜ Grown (now (out .entry)) at (itemLine (now (items .entry)) i) (now (out .exit)) r ⌝ }
 {
-    let name = push_key(Key::Item, out, at);
-    let lf = push_name(items, i, out, name);
-    push(b"\n", out, lf)
+    let name = put_key(Key::Item, out, at);
+    let lf = put_name(items, i, out, name);
+    put(&[LF], out, lf)
 }
 
 // Left name k of a rule with the sign behind it.
 fn left_piece(items: &[u8], rule: Rule, k: usize, out: &mut [u8], at: usize) -> usize
-    requires { ⌜ Named (now items) rule × (k < rule .count) ⌝ }
+    requires { ⌜ NamedAt (now items) rule k ⌝ }
     ensures { λ r. ⌜ Grown (now (out .entry)) at (leftPiece (now (items .entry)) rule k) (now (out .exit)) r ⌝ }
 {
-    let sign = push_name(items, rule.left[k] as usize, out, at);
+    let sign = put_name(items, rule.left[k] as usize, out, at);
     let next = k + 1;
     if (next as u64) < rule.count {
-        return push(b"+", out, sign);
+        return put(&[PLUS], out, sign);
     }
-    push(b":", out, sign)
+    put(&[COLON], out, sign)
 }
 
 // The key of a kind of rule.
@@ -79,7 +96,7 @@ fn left_names(items: &[u8], rule: Rule, out: &mut [u8], at: usize) -> usize
     ensures { λ r. ⌜ Grown (now (out .entry)) at (keyText (ruleKey rule) ++ leftText (now (items .entry)) rule) (now (out .exit)) r ⌝ }
 {
     let count = rule.count as usize;
-    let mut next = push_key(kind_key(rule.kind), out, at);
+    let mut next = put_key(kind_key(rule.kind), out, at);
     let mut k = 0;
     while k < count {
         next = left_piece(items, rule, k, out, next);
@@ -91,12 +108,12 @@ fn left_names(items: &[u8], rule: Rule, out: &mut [u8], at: usize) -> usize
 // What a rule has behind its left names: a follow its right name, any other its class.
 fn right_side(items: &[u8], rule: Rule, out: &mut [u8], at: usize) -> usize
     requires { ⌜ Named (now items) rule ⌝ }
-    ensures { λ r. ⌜ Grown (now (out .entry)) at (rightText (now (items .entry)) rule) (now (out .exit)) r ⌝ }
+    ensures { λ r. ⌜ Put (now (out .entry)) at (rightText (now (items .entry)) rule) (now (out .exit)) r ⌝ }
 {
     if rule.kind == FOLLOW {
-        return push_name(items, rule.right as usize, out, at);
+        return put_name(items, rule.right as usize, out, at);
     }
-    push_class(rule.class, out, at)
+    put_class(rule.class, out, at)
 }
 
 // The line of a rule.
@@ -106,13 +123,13 @@ fn rule_line(items: &[u8], rule: Rule, out: &mut [u8], at: usize) -> usize
 {
     let right = left_names(items, rule, out, at);
     let lf = right_side(items, rule, out, right);
-    push(b"\n", out, lf)
+    put(&[LF], out, lf)
 }
 
 // The form line and the line of each of n items.
 fn item_lines(items: &[u8], n: usize, out: &mut [u8]) -> usize
     requires { ⌜ ItemsOk (now items) n ⌝ }
-    ensures { λ r. ⌜ Grown (now (out .entry)) 0 (formLine ++ pieces (itemLine (now (items .entry))) 0 n) (now (out .exit)) r ⌝ }
+    ensures { λ r. ⌜ Grown (now (out .entry)) 0 (formLine ++ itemLines (now (items .entry)) n) (now (out .exit)) r ⌝ }
 {
     let mut next = form_line(out, 0);
     let mut i = 0;
@@ -124,24 +141,24 @@ fn item_lines(items: &[u8], n: usize, out: &mut [u8]) -> usize
 }
 
 // The lines before the end line: the form line, the items' and the rules'.
-fn rule_lines(items: &[u8], n: usize, rules: &[u64], m: usize, out: &mut [u8]) -> usize
-    requires { ⌜ Tables (now items) n (now rules) m ⌝ }
-    ensures { λ r. ⌜ Grown (now (out .entry)) 0 (formLine ++ pieces (itemLine (now (items .entry))) 0 n ++ pieces (λ k. ruleLine (now (items .entry)) (ruleAt (now (rules .entry)) k)) 0 m) (now (out .exit)) r ⌝ }
+fn rule_lines(items: &[u8], rules: &[u64], head: Head, out: &mut [u8]) -> usize
+    requires { ⌜ Tables head (now items) (now rules) ⌝ }
+    ensures { λ r. ⌜ Grown (now (out .entry)) 0 (formLine ++ itemLines (now (items .entry)) (head .items) ++ ruleLines (now (items .entry)) (now (rules .entry)) (head .rules)) (now (out .exit)) r ⌝ }
 {
-    let mut next = item_lines(items, n, out);
+    let mut next = item_lines(items, head.items, out);
     let mut r = 0;
-    while r < m {
-        next = rule_line(items, rules::rule_at(rules, r), out, next);
+    while r < head.rules {
+        next = rule_line(items, rule_at(rules, r), out, next);
         r += 1;
     }
     next
 }
 
 // The whole text of a rulebook.
-pub(crate) fn book(items: &[u8], n: usize, rules: &[u64], m: usize, out: &mut [u8]) -> usize
-    requires { ⌜ Tables (now items) n (now rules) m ⌝ }
-    ensures { λ r. ⌜ Grown (now (out .entry)) 0 (bookText (now (items .entry)) n (now (rules .entry)) m) (now (out .exit)) r ⌝ }
+pub(crate) fn book(items: &[u8], rules: &[u64], head: Head, out: &mut [u8]) -> usize
+    requires { ⌜ Tables head (now items) (now rules) ⌝ }
+    ensures { λ r. ⌜ Grown (now (out .entry)) 0 (bookText head (now (items .entry)) (now (rules .entry))) (now (out .exit)) r ⌝ }
 {
-    let end = rule_lines(items, n, rules, m, out);
-    end_line((1 + n + m) as u64, out, end)
+    let end = rule_lines(items, rules, head, out);
+    end_line((1 + head.items + head.rules) as u64, out, end)
 }

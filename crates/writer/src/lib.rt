@@ -3,35 +3,39 @@
 // Each function writes from the front of a lent buffer. Where it refuses, the buffer is as it was; else what lies behind the text is as it was.
 mod book;
 mod labelled;
-mod push;
 
 use refusals::Fault;
 use refusals::MOST_TEXT;
-ghost use Rattle.writer.specs.Writing.{WriteSays, LabelsSays, CopySays};
+use refusals::Refusal;
+use rules::Head;
+ghost use mathlib.Core.Path.{_≡_};
+ghost use Rattle.refusals.specs.Said.{refusedBy};
+ghost use Rattle.writer.specs.Writing.{saidWritten, WriteSays, LabelsSays};
+ghost use Rattle.writer.specs.InnerTexts.{CopySays};
 
-// What writing answers: the length of the text; or why it refuses, with its place.
+// What writing answers: the length of the text, or a refusal.
 pub enum Written {
     Text(usize),
-    Refused(Fault, usize),
+    Refused(Refusal),
 }
 
-// BadTable at 0 where the item table is not right with n items or the rule table not with m rules; TooLong at 0 where the text has over 32,768
-// bytes; NoRoom at 0 where `out` is shorter than the text; else the text is at the front of `out`, and the answer is its length.
-pub fn write(items: &[u8], n: usize, rules: &[u64], m: usize, out: &mut [u8]) -> Written
-    ensures { λ r. ⌜ WriteSays (now (items .entry)) n (now (rules .entry)) m (now (out .entry)) r (now (out .exit)) ⌝ }
+// BadTable at 0 where the item table or the rule table is not right under this head; TooLong at 0 where the text has over 32,768 bytes; NoRoom
+// at 0 where `out` is shorter than the text; else the text is at the front of `out`, and the answer is its length.
+pub fn write(items: &[u8], rules: &[u64], head: Head, out: &mut [u8]) -> Written
+    ensures { λ r. ⌜ WriteSays head (now (items .entry)) (now (rules .entry)) (now (out .entry)) (saidWritten r) (now (out .exit)) ⌝ }
 {
-    if !items::items_ok(items, n) {
-        return Written::Refused(Fault::BadTable, 0);
+    if !items::items_ok(items, head.items) {
+        return refused(Fault::BadTable, 0);
     }
-    if !accepts::rules_ok(rules, m, n) {
-        return Written::Refused(Fault::BadTable, 0);
+    if !accepts::rules_ok(rules, head) {
+        return refused(Fault::BadTable, 0);
     }
-    let mut text = [0; 32768];
-    let len = book::book(items, n, rules, m, &mut text);
+    let mut text = [0; MOST_TEXT];
+    let len = book::book(items, rules, head, &mut text);
     if MOST_TEXT < len {
-        return Written::Refused(Fault::TooLong, 0);
+        return refused(Fault::TooLong, 0);
     }
-    copy_out(&text[0..len], out)
+    copy_out(&text[..len], out)
 }
 
 // BadTable at 0 where the item table is not right with n items; NoRoom at 0 where there are fewer than n levels or marks; BadLabel at the first
@@ -44,31 +48,37 @@ pub fn write_labels(
     marks: &[u64],
     out: &mut [u8],
 ) -> Written
-    ensures { λ r. ⌜ LabelsSays (now (items .entry)) n (now (levels .entry)) (now (marks .entry)) (now (out .entry)) r (now (out .exit)) ⌝ }
+    ensures { λ r. ⌜ LabelsSays (now (items .entry)) n (now (levels .entry)) (now (marks .entry)) (now (out .entry)) (saidWritten r) (now (out .exit)) ⌝ }
 {
     if !items::items_ok(items, n) {
-        return Written::Refused(Fault::BadTable, 0);
+        return refused(Fault::BadTable, 0);
     }
     if !labels::has_room(levels, marks, n) {
-        return Written::Refused(Fault::NoRoom, 0);
+        return refused(Fault::NoRoom, 0);
     }
     let bad = labels::first_bad(levels, n);
     if bad < n {
-        return Written::Refused(Fault::BadLabel, bad);
+        return refused(Fault::BadLabel, bad as u64);
     }
-    let mut text = [0; 32768];
+    let mut text = [0; MOST_TEXT];
     let len = labelled::labels_text(items, n, levels, marks, &mut text);
-    copy_out(&text[0..len], out)
+    copy_out(&text[..len], out)
 }
 
 // NoRoom at 0 where `out` is shorter than the text; else the text is at the front of `out`, and the answer is its length.
 fn copy_out(text: &[u8], out: &mut [u8]) -> Written
-    ensures { λ r. ⌜ CopySays (now (text .entry)) (now (out .entry)) r (now (out .exit)) ⌝ }
+    ensures { λ r. ⌜ CopySays (now (text .entry)) (now (out .entry)) (saidWritten r) (now (out .exit)) ⌝ }
 {
-    let len = text.len();
+    let len = puts::put(text, out, 0);
     if out.len() < len {
-        return Written::Refused(Fault::NoRoom, 0);
+        return refused(Fault::NoRoom, 0);
     }
-    puts::put(text, out, 0);
     Written::Text(len)
+}
+
+// A refusal.
+fn refused(fault: Fault, place: u64) -> Written
+    ensures { λ r. ⌜ saidWritten r ≡ refusedBy fault place ⌝ }
+{
+    Written::Refused(Refusal { fault, place })
 }

@@ -1,11 +1,10 @@
--- `put` meets its contract. The loop's invariant: i bytes are copied. The measure is what is left of them. Assumes nothing.
+-- `put` meets its contract. The loop's invariant: there is room, and i bytes are copied. The measure is what is left of them. Assumes nothing.
 use mathlib.Core.Path.{refl}
-use Prim.Native.Nat.{_+_, _-_, _≤_}
-use native.Mathlib.Omega.{arith}
+use Prim.Native.Nat.{_-_}
 use lib.ListN.{length}
 use borrow.Author.Needs.{needs}
 use Rattle.puts.proofs.Placed.{put-nowhere}
-use Rattle.puts.proofs.Puts.{room-yes, Copied, copied-none, copied-more, copied-end}
+use Rattle.puts.proofs.Puts.{Copied, copied-none, copied-more, copied-end}
 use Rattle.puts.proofs.put.Statement.{statement}
 use Rattle.puts.proofs.put.Tie as tie
 
@@ -15,29 +14,26 @@ Inv-loop bytes out₀ at i₀ out i = Copied out₀ at bytes out i
 abbrev μ-loop : tie.MeasureT-loop
 μ-loop bytes out₀ at i₀ out i = length bytes - i
 
--- Past the first test there is room.
-room : (c : tie.Else1 Inv-loop μ-loop)
-    → c .before .before .before .before .args .at + length (c .before .before .before .before .args .bytes .now)
-    ≤ length (c .before .before .before .before .args .out .now)
-room c = room-yes _ _ _ (c .before .has-room .ensures) (c .if1 .left)
-
 has-room-requires : tie.Need-has-room-requires Inv-loop μ-loop
 has-room-requires c κs = search needs
 
+add-result : tie.Need-add-result Inv-loop μ-loop
+add-result c = search needs
+
 returns : tie.Need-returns Inv-loop μ-loop
-returns c = put-nowhere _ _ _ _ _ refl (c .before .has-room .ensures) (c .if1 .taken)
+returns c = search (put-nowhere, needs)
 
 loop-holds : tie.Need-loop-holds Inv-loop μ-loop
-loop-holds c = copied-none
+loop-holds c = search (copied-none, needs)
 
 shared-slice-read-out : tie.Need-shared-slice-read-out Inv-loop μ-loop
 shared-slice-read-out c = search needs
 
 add-out : tie.Need-add-out Inv-loop μ-loop
-add-out c = record { fits = omega (arith, room (c .before .before .before)) }
+add-out c = search needs
 
 slice-write-out : tie.Need-slice-write-out Inv-loop μ-loop
-slice-write-out c = omega (arith, room (c .before .before .before), c .before .before .loop .inv .kept)
+slice-write-out c = search needs
 
 add-i : tie.Need-add-i Inv-loop μ-loop
 add-i c = search needs
@@ -46,16 +42,16 @@ loop-less : tie.Need-loop-less Inv-loop μ-loop
 loop-less c = search needs
 
 loop-again : tie.Need-loop-again Inv-loop μ-loop
-loop-again c = copied-more (c .before .before .loop .inv) (room (c .before .before .before)) (c .before .loop-test .taken)
+loop-again c = search (copied-more, needs)
 
-add-result : tie.Need-add-result Inv-loop μ-loop
-add-result c = record { fits = omega (arith, room (c .before .before)) }
+add-result-2 : tie.Need-add-result-2 Inv-loop μ-loop
+add-result-2 c = search needs
 
 same-length : tie.Need-same-length Inv-loop μ-loop
 same-length c = c .before .loop .inv .kept
 
 returns-2 : tie.Need-returns-2 Inv-loop μ-loop
-returns-2 c = copied-end (c .before .loop .inv) (room (c .before .before)) (c .loop-test .left)
+returns-2 c = search (copied-end, needs)
 
 pub put-spec : {M : Type 1} → statement M
 put-spec =
@@ -64,6 +60,7 @@ put-spec =
     Inv-loop
     μ-loop
     has-room-requires
+    add-result
     returns
     loop-holds
     shared-slice-read-out
@@ -72,6 +69,6 @@ put-spec =
     add-i
     loop-less
     loop-again
-    add-result
+    add-result-2
     same-length
     returns-2)

@@ -14,8 +14,14 @@ decimal-len-requires c κs = search needs
 add-has-room : tie.Need-add-has-room
 add-has-room c = omega (arith, c .decimal-len .ensures, decimal-most (c .before .before .args .class .level))
 
+add-has-room-2 : tie.Need-add-has-room-2
+add-has-room-2 c = omega (arith, c .decimal-len .ensures, decimal-most (c .before .before .args .class .level))
+
 has-room-requires : tie.Need-has-room-requires
 has-room-requires c κs = search needs
+
+add-result : tie.Need-add-result
+add-result c = search needs
 
 returns : tie.Need-returns
 returns c = search (class-nowhere, needs)
@@ -46,7 +52,9 @@ put-class-spec =
     (tie.spec
     decimal-len-requires
     add-has-room
+    add-has-room-2
     has-room-requires
+    add-result
     returns
     put-digits-requires
     slice-write-out

@@ -10,6 +10,9 @@ decimal-len-requires c κs = search needs
 has-room-requires : tie.Need-has-room-requires
 has-room-requires c κs = search needs
 
+add-result : tie.Need-add-result
+add-result c = search needs
+
 returns : tie.Need-returns
 returns c = search (count-nowhere, needs)
 
@@ -28,6 +31,7 @@ put-count-spec =
     (tie.spec
     decimal-len-requires
     has-room-requires
+    add-result
     returns
     put-digits-requires
     same-length

@@ -1,21 +1,27 @@
 -- `copy_out` meets its contract. Assumes nothing.
 use borrow.Author.Needs.{needs}
-use Rattle.writer.specs.Writing.{roomless}
-use Rattle.writer.proofs.Says.{copy-there}
+use Rattle.writer.proofs.Says.{says-roomless, says-there}
 use Rattle.writer.proofs.copy_out.Statement.{statement}
 use Rattle.writer.proofs.copy_out.Tie as tie
-
-returns : tie.Need-returns
-returns c = roomless (c .if1 .taken)
 
 put-requires : tie.Need-put-requires
 put-requires c κs = search needs
 
+refused-requires : tie.Need-refused-requires
+refused-requires c κs = search needs
+
 same-length : tie.Need-same-length
 same-length c = search needs
 
+returns : tie.Need-returns
+returns c = search (says-roomless, needs)
+
+same-length-2 : tie.Need-same-length-2
+same-length-2 c = search needs
+
 returns-2 : tie.Need-returns-2
-returns-2 c = copy-there (c .before .before .before .before .if1 .left) (c .before .before .put .ensures)
+returns-2 c = search (says-there, needs)
 
 pub copy-out-spec : {M : Type 1} → statement M
-copy-out-spec = tie.close (tie.spec returns put-requires same-length returns-2)
+copy-out-spec =
+    tie.close (tie.spec put-requires refused-requires same-length returns same-length-2 returns-2)

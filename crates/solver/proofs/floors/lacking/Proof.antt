@@ -8,7 +8,7 @@ rule-at-requires : tie.Need-rule-at-requires
 rule-at-requires c κs = search needs
 
 returns : tie.Need-returns
-returns c = lacks-nothing _ _ (c .before .before .rule-at .ensures) (c .if1 .taken) _
+returns c = search (lacks-nothing, needs)
 
 left-join-requires : tie.Need-left-join-requires
 left-join-requires c κs = search needs
@@ -17,8 +17,7 @@ missing-requires : tie.Need-missing-requires
 missing-requires c κs = search needs
 
 returns-2 : tie.Need-returns-2
-returns-2 c = lacks-floor _ _ (c .before .before .before .before .rule-at .ensures) (c .before .before .if1 .left) _ _ _ (c .before .left-join .ensures) (c .missing .ensures)
+returns-2 c = search (lacks-floor, needs)
 
 pub lacking-spec : {M : Type 1} → statement M
-lacking-spec =
-    tie.close (tie.spec rule-at-requires returns left-join-requires missing-requires returns-2)
+lacking-spec = tie.close (tie.spec rule-at-requires returns left-join-requires missing-requires returns-2)

@@ -8,10 +8,10 @@ use Rattle.solver.proofs.floors.unheld.Statement.{statement}
 use Rattle.solver.proofs.floors.unheld.Tie as tie
 
 abbrev Inv-loop : tie.InvT-loop
-Inv-loop rules m levels marks all₀ r₀ all r = LacksBefore rules (held levels marks) r all × (r ≤ m)
+Inv-loop rules head levels marks all₀ r₀ all r = LacksBefore rules (held levels marks) r all × (r ≤ head .rules)
 
 abbrev μ-loop : tie.MeasureT-loop
-μ-loop rules m levels marks all₀ r₀ all r = m - r
+μ-loop rules head levels marks all₀ r₀ all r = head .rules - r
 
 loop-holds : tie.Need-loop-holds Inv-loop μ-loop
 loop-holds c = (lacks-none, omega arith)
@@ -29,21 +29,10 @@ loop-less : tie.Need-loop-less Inv-loop μ-loop
 loop-less c = search needs
 
 loop-again : tie.Need-loop-again Inv-loop μ-loop
-loop-again c = (lacks-more (c .before .before .before .loop .inv .0) (c .before .lacking .ensures) (c .join .ensures), omega arith)
+loop-again c = (search (lacks-more, needs), omega arith)
 
 returns : tie.Need-returns Inv-loop μ-loop
-returns c = lacks-all (c .before .loop .inv .0) (omega arith)
+returns c = search (lacks-all, needs)
 
 pub unheld-spec : {M : Type 1} → statement M
-unheld-spec =
-    tie.close
-    (tie.spec
-    Inv-loop
-    μ-loop
-    loop-holds
-    lacking-requires
-    join-requires
-    add-r
-    loop-less
-    loop-again
-    returns)
+unheld-spec = tie.close (tie.spec Inv-loop μ-loop loop-holds lacking-requires join-requires add-r loop-less loop-again returns)

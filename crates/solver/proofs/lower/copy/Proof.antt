@@ -1,7 +1,7 @@
 -- `lower::copy` meets its contract. Assumes nothing.
 use Prim.Native.Nat.{_≤_, _-_}
 use native.Mathlib.Omega.{arith}
-use Rattle.solver.specs.Lowers.{Copied}
+use Rattle.solver.specs.InnerLowers.{Copied}
 use Rattle.solver.proofs.Copying.{copied-none, copied-more, copied-all}
 use borrow.Author.Needs.{needs}
 use Rattle.solver.proofs.lower.copy.Statement.{statement}

@@ -1,7 +1,5 @@
 -- `lower::lower_item` meets its contract. Assumes nothing.
-use mathlib.Core.Path.{_∙_}
-use native.Mathlib.Omega.{arith}
-use Rattle.solver.proofs.Attempts.{item-lowered, ready-kept}
+use Rattle.solver.proofs.Lowering.{item-lowered, item-kept}
 use borrow.Author.Needs.{needs}
 use Rattle.solver.proofs.lower.lower_item.Statement.{statement}
 use Rattle.solver.proofs.lower.lower_item.Tie as tie
@@ -10,18 +8,16 @@ lower-marks-requires : tie.Need-lower-marks-requires
 lower-marks-requires c κs = search needs
 
 lower-level-requires : tie.Need-lower-level-requires
-lower-level-requires c κs = (ready-kept (c .before .before .before .before .before .before .before .before .before .before .before .before .pre .0) (record { levels = c .before .before .before .before .before .before .lower-marks .kept .1 .1 .1 .1 .0; marks = c .before .before .before .before .before .before .lower-marks .kept .1 .1 .1 .1 .1 .0 }), c .before .before .before .before .before .before .before .before .before .before .before .before .pre .1)
+lower-level-requires c κs = search (item-kept, needs)
 
 same-length : tie.Need-same-length
-same-length c = c .before .before .before .before .lower-level .kept .1 .1 .1 .1 .0 ∙ c .before .before .before .before .before .before .before .before .before .before .before .lower-marks .kept .1 .1 .1 .1 .0
+same-length c = search needs
 
 same-length-2 : tie.Need-same-length-2
-same-length-2 c = c .before .before .before .before .lower-level .kept .1 .1 .1 .1 .1 .0 ∙ c .before .before .before .before .before .before .before .before .before .before .before .lower-marks .kept .1 .1 .1 .1 .1 .0
+same-length-2 c = search needs
 
 returns : tie.Need-returns
-returns c = item-lowered (c .before .before .before .before .before .before .before .before .before .before .before .before .before .before .before .before .before .pre .0) (omega arith) (omega arith) (c .before .before .before .before .before .before .before .before .before .before .before .lower-marks .ensures) (c .before .before .before .before .lower-level .ensures)
+returns c = search (item-lowered, needs)
 
 pub lower-item-spec : {M : Type 1} → statement M
-lower-item-spec =
-    tie.close
-    (tie.spec lower-marks-requires lower-level-requires same-length same-length-2 returns)
+lower-item-spec = tie.close (tie.spec lower-marks-requires lower-level-requires same-length same-length-2 returns)

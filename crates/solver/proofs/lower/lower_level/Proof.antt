@@ -1,75 +1,56 @@
 -- `lower::lower_level` meets its contract. Assumes nothing.
-use mathlib.Core.Path.{_∙_}
 use Prim.Native.Nat.{_-_}
-use native.Mathlib.Omega.{arith}
 use Rattle.solver.specs.Solving.{held}
-use Rattle.solver.specs.Steps.{labelsAt}
-use Rattle.solver.proofs.Attempts.{LevelSoFar, level-start, level-more, level-found, level-kept, level-word, ready-kept}
+use Rattle.solver.proofs.Lowering.{LevelSoFar, level-start, level-more, level-found, level-kept, item-kept}
+use native.Mathlib.Omega.{arith}
 use borrow.Author.Needs.{needs}
 use Rattle.solver.proofs.lower.lower_level.Statement.{statement}
 use Rattle.solver.proofs.lower.lower_level.Tie as tie
 
 abbrev Inv-loop : tie.InvT-loop
-Inv-loop rules m n i levels₀ marks₀ v₀ levels marks v = LevelSoFar rules m n i v (held levels₀ marks₀) (held levels marks)
+Inv-loop rules head i levels₀ marks₀ most v₀ levels marks v = LevelSoFar head rules i v (held levels₀ marks₀) (held levels marks)
 
 abbrev μ-loop : tie.MeasureT-loop
-μ-loop rules m n i levels₀ marks₀ v₀ levels marks v = labelsAt 0 (held levels₀ marks₀) i - v
+μ-loop rules head i levels₀ marks₀ most v₀ levels marks v = most - v
+
+mul-most : tie.Need-mul-most Inv-loop μ-loop
+mul-most c = search needs
+
+slice-read-most : tie.Need-slice-read-most Inv-loop μ-loop
+slice-read-most c = search needs
 
 loop-holds : tie.Need-loop-holds Inv-loop μ-loop
 loop-holds c = level-start
 
-mul-if1 : tie.Need-mul-if1 Inv-loop μ-loop
-mul-if1 c = omega (arith, c .before .before .before .before .pre .0 .accepted .accepted .items, c .before .before .before .before .pre .1)
-
-slice-read-if1 : tie.Need-slice-read-if1 Inv-loop μ-loop
-slice-read-if1 c = omega (arith, c .before .loop .inv .sized .levels, c .before .before .before .before .before .pre .0 .room .forLevels)
-
 try-level-requires : tie.Need-try-level-requires Inv-loop μ-loop
-try-level-requires c κs = (ready-kept (c .before .before .before .before .before .before .before .before .pre .0) (c .before .before .before .before .loop .inv .sized), c .before .before .before .before .before .before .before .before .pre .1)
+try-level-requires c κs = search (item-kept, needs)
 
 same-length : tie.Need-same-length Inv-loop μ-loop
-same-length c = c .before .before .before .before .before .try-level .kept .1 .1 .1 .1 .1 .0 ∙ c .before .before .before .before .before .before .before .before .before .before .loop .inv .sized .levels
+same-length c = search needs
 
 same-length-2 : tie.Need-same-length-2 Inv-loop μ-loop
-same-length-2 c = c .before .before .before .before .before .try-level .kept .1 .1 .1 .1 .1 .1 .0 ∙ c .before .before .before .before .before .before .before .before .before .before .loop .inv .sized .marks
+same-length-2 c = search needs
 
 returns : tie.Need-returns Inv-loop μ-loop
-returns c = level-found (c .before .before .before .before .before .before .before .before .before .before .before .before .before .before .pre .0) (c .before .before .before .before .before .before .before .before .before .before .before .before .before .before .pre .1) (c .before .before .before .before .before .before .before .before .before .before .loop .inv) (omega (arith, level-word (held (c .before .before .before .before .before .before .before .before .before .before .loop .levels) (c .before .before .before .before .before .before .before .before .before .before .loop .marks)) (c .before .before .before .before .before .before .before .before .before .before .before .before .before .before .args .i), c .before .before .before .before .before .before .before .before .if1 .taken)) (c .before .before .before .before .before .try-level .ensures) (c .if2 .taken)
+returns c = search (level-found, needs)
 
 add-v : tie.Need-add-v Inv-loop μ-loop
-add-v c = omega (arith, c .before .before .before .before .before .before .before .before .before .slice-known3 .given (c .before .before .before .before .before .before .before .before .before .before .before .before .before .before .args .i), c .before .before .before .before .before .before .before .before .if1 .taken)
+add-v c = let read = c .before .before .before .before .before .before .before .before .before .before in omega (arith, read .slice-known3 .given (read .before .before .before .before .args .i))
 
 loop-less : tie.Need-loop-less Inv-loop μ-loop
-loop-less c = omega (arith, level-word (held (c .before .before .before .before .before .before .before .before .before .before .loop .levels) (c .before .before .before .before .before .before .before .before .before .before .loop .marks)) (c .before .before .before .before .before .before .before .before .before .before .before .before .before .before .args .i), c .before .before .before .before .before .before .before .before .if1 .taken, c .before .before .before .before .before .before .before .before .before .before .loop .inv .stays (c .before .before .before .before .before .before .before .before .before .before .before .before .before .before .args .i) (c .before .before .before .before .before .before .before .before .before .before .before .before .before .before .pre .1))
+loop-less c = search needs
 
 loop-again : tie.Need-loop-again Inv-loop μ-loop
-loop-again c = level-more (c .before .before .before .before .before .before .before .before .before .before .loop .inv) (c .before .before .before .before .before .try-level .ensures) (c .if2 .left) (record { levels = c .before .before .before .before .before .try-level .kept .1 .1 .1 .1 .1 .0; marks = c .before .before .before .before .before .try-level .kept .1 .1 .1 .1 .1 .1 .0 })
+loop-again c = search (level-more, needs)
 
 same-length-3 : tie.Need-same-length-3 Inv-loop μ-loop
-same-length-3 c = c .before .before .loop .inv .sized .levels
+same-length-3 c = search needs
 
 same-length-4 : tie.Need-same-length-4 Inv-loop μ-loop
-same-length-4 c = c .before .before .loop .inv .sized .marks
+same-length-4 c = search needs
 
 returns-2 : tie.Need-returns-2 Inv-loop μ-loop
-returns-2 c = level-kept (c .before .before .before .before .before .before .pre .0) (c .before .before .before .before .before .before .pre .1) (c .before .before .loop .inv) (omega (arith, level-word (held (c .before .before .loop .levels) (c .before .before .loop .marks)) (c .before .before .before .before .before .before .args .i), c .if1 .left))
+returns-2 c = search (level-kept, needs)
 
 pub lower-level-spec : {M : Type 1} → statement M
-lower-level-spec =
-    tie.close
-    (tie.spec
-    Inv-loop
-    μ-loop
-    loop-holds
-    mul-if1
-    slice-read-if1
-    try-level-requires
-    same-length
-    same-length-2
-    returns
-    add-v
-    loop-less
-    loop-again
-    same-length-3
-    same-length-4
-    returns-2)
+lower-level-spec = tie.close (tie.spec Inv-loop μ-loop mul-most slice-read-most loop-holds try-level-requires same-length same-length-2 returns add-v loop-less loop-again same-length-3 same-length-4 returns-2)

@@ -1,7 +1,7 @@
 -- `lower::put_back` meets its contract. Assumes nothing.
 use Prim.Native.Nat.{_≤_, _-_}
 use native.Mathlib.Omega.{arith}
-use Rattle.solver.specs.Lowers.{Chosen}
+use Rattle.solver.specs.InnerLowers.{Chosen}
 use Rattle.solver.proofs.Copying.{chosen-none, chosen-more, chosen-all}
 use borrow.Author.Needs.{needs}
 use Rattle.solver.proofs.lower.put_back.Statement.{statement}

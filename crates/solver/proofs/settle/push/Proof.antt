@@ -11,7 +11,7 @@ element-copy-out-i : tie.Need-element-copy-out-i
 element-copy-out-i c = search needs
 
 lower-requires : tie.Need-lower-requires
-lower-requires c κs = cap-room (c .before .before .before .before .before .rule-at .ensures) (c .before .before .before .before .before .before .before .before .before .pre)
+lower-requires c κs = search (cap-room, needs)
 
 same-length : tie.Need-same-length
 same-length c = search needs
@@ -20,16 +20,16 @@ same-length-2 : tie.Need-same-length-2
 same-length-2 c = search needs
 
 returns : tie.Need-returns
-returns c = push-cap _ _ _ (c .before .before .before .before .before .before .before .before .before .before .rule-at .ensures) _ _ _ (c .before .before .before .before .before .before .before .before .before .if1 .taken) (c .before .before .before .before .lower .ensures)
+returns c = search (push-cap, needs)
 
 returns-2 : tie.Need-returns-2
-returns-2 c = push-floor _ _ _ (c .before .before .rule-at .ensures) _ (c .if2 .taken)
+returns-2 c = search (push-floor, needs)
 
 left-join-requires : tie.Need-left-join-requires
 left-join-requires c κs = search needs
 
 lower-requires-2 : tie.Need-lower-requires-2
-lower-requires-2 c κs = follow-room (c .before .before .before .before .before .before .before .rule-at .ensures) (c .before .before .before .before .before .before .before .before .before .before .before .pre) (c .before .before .before .before .before .before .if1 .left) (c .before .before .before .before .before .if2 .left)
+lower-requires-2 c κs = search (follow-room, needs)
 
 same-length-3 : tie.Need-same-length-3
 same-length-3 c = search needs
@@ -38,21 +38,7 @@ same-length-4 : tie.Need-same-length-4
 same-length-4 c = search needs
 
 returns-3 : tie.Need-returns-3
-returns-3 c = push-follow _ _ _ (c .before .before .before .before .before .before .before .before .before .before .before .before .rule-at .ensures) _ _ _ (c .before .before .before .before .before .before .before .before .before .before .before .if1 .left) (c .before .before .before .before .before .before .before .before .before .before .if2 .left) _ (c .before .before .before .before .before .before .before .left-join .ensures) (c .before .before .before .before .lower2 .ensures)
+returns-3 c = search (push-follow, needs)
 
 pub push-spec : {M : Type 1} → statement M
-push-spec =
-    tie.close
-    (tie.spec
-    rule-at-requires
-    element-copy-out-i
-    lower-requires
-    same-length
-    same-length-2
-    returns
-    returns-2
-    left-join-requires
-    lower-requires-2
-    same-length-3
-    same-length-4
-    returns-3)
+push-spec = tie.close (tie.spec rule-at-requires element-copy-out-i lower-requires same-length same-length-2 returns returns-2 left-join-requires lower-requires-2 same-length-3 same-length-4 returns-3)

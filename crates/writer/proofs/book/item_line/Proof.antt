@@ -1,37 +1,34 @@
 -- `item_line` meets its contract, piece by piece. Assumes nothing.
 use borrow.Author.Needs.{needs}
-use Rattle.writer.proofs.Growing.{grown-grown}
+use Rattle.writer.proofs.Lines.{item-put}
 use Rattle.writer.proofs.book.item_line.Statement.{statement}
 use Rattle.writer.proofs.book.item_line.Tie as tie
 
-push-key-requires : tie.Need-push-key-requires
-push-key-requires c κs = search needs
+put-key-requires : tie.Need-put-key-requires
+put-key-requires c κs = search needs
 
-push-name-requires : tie.Need-push-name-requires
-push-name-requires c κs = search needs
+put-name-requires : tie.Need-put-name-requires
+put-name-requires c κs = search needs
 
-slice-aggregate-push : tie.Need-slice-aggregate-push
-slice-aggregate-push c = search needs
+slice-aggregate-put : tie.Need-slice-aggregate-put
+slice-aggregate-put c = search needs
 
-push-requires : tie.Need-push-requires
-push-requires c κs = search needs
+put-requires : tie.Need-put-requires
+put-requires c κs = search needs
 
 same-length : tie.Need-same-length
 same-length c = search needs
 
 returns : tie.Need-returns
-returns c =
-    grown-grown
-    (c .before .before .before .before .before .before .before .before .before .before .before .push-key .ensures)
-    (grown-grown (c .before .before .before .before .before .before .before .push-name .ensures) (c .before .before .push .ensures))
+returns c = search (item-put, needs)
 
 pub item-line-spec : {M : Type 1} → statement M
 item-line-spec =
     tie.close
     (tie.spec
-    push-key-requires
-    push-name-requires
-    slice-aggregate-push
-    push-requires
+    put-key-requires
+    put-name-requires
+    slice-aggregate-put
+    put-requires
     same-length
     returns)

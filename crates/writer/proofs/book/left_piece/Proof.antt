@@ -1,27 +1,27 @@
 -- `left_piece` meets its contract: a plus sign stands behind every left name but the last. Assumes nothing.
 use native.Mathlib.Omega.{arith}
 use borrow.Author.Needs.{needs}
-use Rattle.writer.proofs.Lines.{left-named, left-plus, left-colon}
+use Rattle.writer.proofs.Lines.{left-place, left-named, left-plus, left-colon}
 use Rattle.writer.proofs.book.left_piece.Statement.{statement}
 use Rattle.writer.proofs.book.left_piece.Tie as tie
 
-mul-push-name : tie.Need-mul-push-name
-mul-push-name c = omega (arith, c .before .before .pre .0 .accepted .left .few, c .before .before .pre .1)
+mul-put-name : tie.Need-mul-put-name
+mul-put-name c = omega (arith, left-place (c .before .before .pre))
 
-element-copy-out-push-name : tie.Need-element-copy-out-push-name
-element-copy-out-push-name c = omega (arith, c .before .before .pre .0 .accepted .left .few, c .before .before .pre .1)
+element-copy-out-put-name : tie.Need-element-copy-out-put-name
+element-copy-out-put-name c = search (left-place, needs)
 
-push-name-requires : tie.Need-push-name-requires
-push-name-requires c κs = left-named (c .before .before .before .before .pre .0) _ (c .before .before .before .before .pre .1)
+put-name-requires : tie.Need-put-name-requires
+put-name-requires c κs = search (left-named, needs)
 
 add-next : tie.Need-add-next
-add-next c = omega (arith, c .before .before .before .before .before .before .before .pre .0 .accepted .left .few, c .before .before .before .before .before .before .before .pre .1)
+add-next c = search needs
 
-slice-aggregate-push : tie.Need-slice-aggregate-push
-slice-aggregate-push c = search needs
+slice-aggregate-put : tie.Need-slice-aggregate-put
+slice-aggregate-put c = search needs
 
-push-requires : tie.Need-push-requires
-push-requires c κs = search needs
+put-requires : tie.Need-put-requires
+put-requires c κs = search needs
 
 same-length : tie.Need-same-length
 same-length c = search needs
@@ -29,11 +29,11 @@ same-length c = search needs
 returns : tie.Need-returns
 returns c = search (left-plus, needs)
 
-slice-aggregate-push-2 : tie.Need-slice-aggregate-push-2
-slice-aggregate-push-2 c = search needs
+slice-aggregate-put-2 : tie.Need-slice-aggregate-put-2
+slice-aggregate-put-2 c = search needs
 
-push-requires-2 : tie.Need-push-requires-2
-push-requires-2 c κs = search needs
+put-requires-2 : tie.Need-put-requires-2
+put-requires-2 c κs = search needs
 
 same-length-2 : tie.Need-same-length-2
 same-length-2 c = search needs
@@ -45,15 +45,15 @@ pub left-piece-spec : {M : Type 1} → statement M
 left-piece-spec =
     tie.close
     (tie.spec
-    mul-push-name
-    element-copy-out-push-name
-    push-name-requires
+    mul-put-name
+    element-copy-out-put-name
+    put-name-requires
     add-next
-    slice-aggregate-push
-    push-requires
+    slice-aggregate-put
+    put-requires
     same-length
     returns
-    slice-aggregate-push-2
-    push-requires-2
+    slice-aggregate-put-2
+    put-requires-2
     same-length-2
     returns-2)

@@ -4,8 +4,8 @@ use Rattle.writer.proofs.Lines.{right-named, right-name, right-class}
 use Rattle.writer.proofs.book.right_side.Statement.{statement}
 use Rattle.writer.proofs.book.right_side.Tie as tie
 
-push-name-requires : tie.Need-push-name-requires
-push-name-requires c κs = right-named (c .before .before .before .before .before .pre) (c .before .if1 .taken)
+put-name-requires : tie.Need-put-name-requires
+put-name-requires c κs = search (right-named, needs)
 
 same-length : tie.Need-same-length
 same-length c = search needs
@@ -13,8 +13,8 @@ same-length c = search needs
 returns : tie.Need-returns
 returns c = search (right-name, needs)
 
-push-class-requires : tie.Need-push-class-requires
-push-class-requires c κs = search needs
+put-class-requires : tie.Need-put-class-requires
+put-class-requires c κs = search needs
 
 same-length-2 : tie.Need-same-length-2
 same-length-2 c = search needs
@@ -25,4 +25,4 @@ returns-2 c = search (right-class, needs)
 pub right-side-spec : {M : Type 1} → statement M
 right-side-spec =
     tie.close
-    (tie.spec push-name-requires same-length returns push-class-requires same-length-2 returns-2)
+    (tie.spec put-name-requires same-length returns put-class-requires same-length-2 returns-2)

@@ -1,6 +1,6 @@
 -- `labels_text` meets its contract. Assumes nothing.
 use borrow.Author.Needs.{needs}
-use Rattle.writer.proofs.Lines.{labels-grown}
+use Rattle.writer.proofs.Lines.{labels-made}
 use Rattle.writer.proofs.labelled.labels_text.Statement.{statement}
 use Rattle.writer.proofs.labelled.labels_text.Tie as tie
 
@@ -17,7 +17,7 @@ same-length : tie.Need-same-length
 same-length c = search needs
 
 returns : tie.Need-returns
-returns c = search (labels-grown, needs)
+returns c = search (labels-made, needs)
 
 pub labels-text-spec : {M : Type 1} → statement M
 labels-text-spec =

@@ -1,0 +1,90 @@
+-- What lowering does to labels: in the part that is lowered it takes them from item i to item k, in every other part it leaves them.
+-- Assumes nothing.
+use mathlib.Core.Path.{_≡_}
+use mathlib.Core.Bool.{Bool, true, false}
+use mathlib.Core.List.{List}
+use Prim.Native.Nat.{ℕ, suc, _-_, _≤_, _<_, min, max}
+use lib.ListN.{length, getD, set}
+use Rattle.classes.specs.Bits.{bit}
+use Rattle.classes.specs.Class.{topLevel}
+use Rattle.classes.specs.Parts.{partCount}
+use Rattle.classes.specs.declared.Class.{Class}
+use Rattle.meaning.specs.Lowered.{Lowered, NoneLess}
+use Rattle.labels.specs.Labels.{Room}
+use Rattle.rules.specs.declared.Head.{Head}
+use Rattle.solver.specs.Solving.{Buffers, held, labelsOf, RestKept}
+use Rattle.solver.specs.InnerSteps.{bookIn, valuesIn, labelsAt, Usable, Settles}
+
+-- Both lists have n words.
+pub record CopyRoom (n : ℕ) (from to : List ℕ) : Type 0 where
+  pub source : n ≤ length from
+  pub target : n ≤ length to
+
+-- The first n words are those of another list; the rest is as it was.
+pub record Copied (n : ℕ) (from before after : List ℕ) : Type 0 where
+  pub kept : RestKept n before after
+  pub front : (i : ℕ) → i < n → getD after i 0 ≡ getD from i 0
+
+-- Of the first n words, each bit is the old list's where w has it, and stays elsewhere; the rest is as it was.
+pub record Chosen (n w : ℕ) (old before after : List ℕ) : Type 0 where
+  pub kept : RestKept n before after
+  pub bits : (i : ℕ) → i < n → (k : ℕ) → k < 64
+      → bit k (getD after i 0) ≡ max (min (bit k (getD before i 0)) (1 - bit k w)) (min (bit k (getD old i 0)) (bit k w))
+
+-- The labels with x at item i.
+abbrev pub placedAt : ℕ → Class → Buffers → Buffers
+placedAt i x b = held (set (b .levels) i (x .level)) (set (b .marks) i (x .marks))
+
+-- What lowering item i asks.
+pub record ItemUsable (h : Head) (t : List ℕ) (i : ℕ) (b : Buffers) : Type 0 where
+  pub usable : Usable h t b
+  pub item : i < h .items
+
+-- What an attempt at item i asks: also room for the labels as they were.
+pub record Attemptable (h : Head) (t : List ℕ) (i : ℕ) (b old : Buffers) : Type 0 where
+  pub usable : ItemUsable h t i b
+  pub spare : Room (h .items) (old .levels) (old .marks)
+
+-- The labels as they were are saved, and with x at item i they are settled. There is still room for both.
+pub record Attempts (h : Head) (t : List ℕ) (i : ℕ) (x : Class) (before after old : Buffers) (w : Class) : Type 0 where
+  pub saved : (j : ℕ) → j < h .items → labelsOf old j ≡ labelsOf before j
+  pub settled : Settles h t (placedAt i x before) after w
+  pub room : Room (h .items) (after .levels) (after .marks)
+  pub spare : Room (h .items) (old .levels) (old .marks)
+
+-- In part p, labels lowered up to item i become labels lowered up to item k.
+pub record LowersPart (p : ℕ) (h : Head) (t : List ℕ) (i k : ℕ) (before after : Buffers) : Type 0 where
+  pub lowered : (u : ℕ → ℕ) → Lowered (valuesIn p) (bookIn p h t) u i (labelsAt p before) → Lowered (valuesIn p) (bookIn p h t) u k (labelsAt p after)
+
+-- Part p of each label stays.
+pub record PartStays (p : ℕ) (h : Head) (before after : Buffers) : Type 0 where
+  pub stays : (j : ℕ) → j < h .items → labelsAt p after j ≡ labelsAt p before j
+
+-- The marks are lowered. The levels stay.
+pub record LowersMarks (h : Head) (t : List ℕ) (i k : ℕ) (before after : Buffers) : Type 0 where
+  pub levels : PartStays 0 h before after
+  pub lowered : (p : ℕ) → p < 64 → LowersPart (suc p) h t i k before after
+
+-- Every mark stays.
+pub record MarksStay (h : Head) (before after : Buffers) : Type 0 where
+  pub each : (p : ℕ) → p < 64 → PartStays (suc p) h before after
+
+-- The levels are lowered. The marks stay.
+pub record LowersLevel (h : Head) (t : List ℕ) (i k : ℕ) (before after : Buffers) : Type 0 where
+  pub marks : MarksStay h before after
+  pub lowered : LowersPart 0 h t i k before after
+
+-- No labelling in the level that is below the labels has less than v at item i.
+abbrev pub NoLevelLess : Head → List ℕ → Buffers → ℕ → ℕ → Type 0
+NoLevelLess h t b i v = NoneLess topLevel (bookIn 0 h t) (labelsAt 0 b) i v
+
+-- Level v at item i leaves a labelling, and the labels are lowered to it, if nothing less does; or it leaves none, and the labels stay.
+pub record TriesLevel (h : Head) (t : List ℕ) (i v : ℕ) (before after : Buffers) (left : Bool) : Type 0 where
+  pub marks : MarksStay h before after
+  pub lowered : left ≡ true → v ≤ labelsAt 0 before i → NoLevelLess h t before i v → LowersPart 0 h t i (suc i) before after
+  pub stays : left ≡ false → PartStays 0 h before after
+  pub failed : left ≡ false → NoLevelLess h t before i (suc v)
+
+-- In every part, labels lowered up to item i become labels lowered up to item k.
+pub record Lowers (h : Head) (t : List ℕ) (i k : ℕ) (before after : Buffers) : Type 0 where
+  pub lowered : (p : ℕ) → p < partCount → LowersPart p h t i k before after
