@@ -12,7 +12,13 @@ use labels::label_at;
 use rules::left_join;
 use rules::rule_at;
 
-pub(crate) fn call(routine: u64, n: Numbers, rules: &[u64], levels: &[u64], marks: &[u64]) -> Answer {
+pub(crate) fn call(
+    routine: u64,
+    n: Numbers,
+    rules: &[u64],
+    levels: &[u64],
+    marks: &[u64],
+) -> Answer {
     let a = n.a as usize;
     match routine {
         11 => says(has_room(levels, marks, a)),

@@ -6,9 +6,11 @@ mod input;
 mod label_calls;
 mod output;
 mod table_calls;
+mod text_calls;
 mod token_calls;
 
 use answer::Answer;
+use input::Lent;
 use input::Numbers;
 use input::bools_in;
 use input::bytes_in;
@@ -44,7 +46,8 @@ fn main() {
             return;
         }
         let numbers = numbers_in();
-        if !lend(routine.value, numbers, routine.good & numbers.good) {
+        let good = routine.good & (routine.value < ROUTINES) & numbers.good;
+        if !lend(routine.value, numbers, good) {
             io::write_all(STDOUT_FILENO, b"bad call\n");
             return;
         }
@@ -52,27 +55,23 @@ fn main() {
     }
 }
 
-// Reads what a call lends, and makes it. Answers whether it is a call.
+// Reads what a call lends, and makes it, unless something in it has not the form. Answers whether it was made.
 fn lend(routine: u64, numbers: Numbers, good: bool) -> bool {
     let mut text = [0u8; MOST_TEXT];
-    let mut items = [0u8; MOST_ITEMS];
-    let mut out = [0u8; MOST_OUT];
-    let mut rules = [0u64; MOST_RULES];
-    let mut levels = [0u64; MOST_LABELS];
-    let mut marks = [0u64; MOST_LABELS];
-    let mut kept = [false; MOST_LABELS];
     let t = bytes_in(&mut text);
+    let mut items = [0u8; MOST_ITEMS];
     let i = bytes_in(&mut items);
+    let mut out = [0u8; MOST_OUT];
     let o = bytes_in(&mut out);
+    let mut rules = [0u64; MOST_RULES];
     let r = words_in(&mut rules);
+    let mut levels = [0u64; MOST_LABELS];
     let l = words_in(&mut levels);
+    let mut marks = [0u64; MOST_LABELS];
     let m = words_in(&mut marks);
+    let mut kept = [false; MOST_LABELS];
     let k = bools_in(&mut kept);
-    let of_form = good & t.good & i.good & o.good & r.good & l.good & m.good & k.good;
-    if !of_form {
-        return false;
-    }
-    if ROUTINES <= routine {
+    if !all_good(good, t, i, o, r, l, m, k) {
         return false;
     }
     call(
@@ -89,6 +88,11 @@ fn lend(routine: u64, numbers: Numbers, good: bool) -> bool {
     true
 }
 
+// Whether all of a call has the form.
+fn all_good(good: bool, t: Lent, i: Lent, o: Lent, r: Lent, l: Lent, m: Lent, k: Lent) -> bool {
+    good & t.good & i.good & o.good & r.good & l.good & m.good & k.good
+}
+
 // Makes a call, and prints its answer and the buffers after it.
 fn call(
     routine: u64,
@@ -101,7 +105,17 @@ fn call(
     marks: &mut [u64],
     kept: &mut [bool],
 ) {
-    answer_out(made(routine, numbers, text, items, out, rules, levels, marks, kept));
+    answer_out(made(
+        routine,
+        numbers,
+        text,
+        items,
+        out,
+        rules,
+        levels,
+        marks,
+        kept,
+    ));
     bytes_out(text);
     bytes_out(items);
     bytes_out(out);
@@ -124,6 +138,7 @@ fn made(
     kept: &mut [bool],
 ) -> Answer {
     match routine {
+        0..=2 => text_calls::call(routine, numbers, text, items, out, rules, levels, marks),
         3..=8 => table_calls::call(routine, numbers, text, items, rules, levels, marks),
         11..=16 => label_calls::call(routine, numbers, rules, levels, marks),
         20..=24 => token_calls::reading(routine, numbers, text),

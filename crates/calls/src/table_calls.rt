@@ -16,6 +16,8 @@ use refusals::MOST_RULES;
 use rules::Head;
 use rules::Rule;
 use rules::rule_at;
+use solver::Solved;
+use solver::solve;
 
 pub(crate) fn call(
     routine: u64,
@@ -35,6 +37,7 @@ pub(crate) fn call(
         3 => found(find(items, a, text)),
         4 => says(items_ok(items, a)),
         5 => says(rules_ok(rules, head)),
+        6 => solved(solve(rules, head, levels, marks)),
         7 => checked(check(rules, head, levels, marks)),
         _ => checked(check_array(records(rules), head, levels, marks)),
     }
@@ -56,6 +59,13 @@ fn found(answer: Found) -> Answer {
         Found::At(i) => one(0, i as u64),
         Found::Absent => none(1),
         Found::Refused(refusal) => refused(refusal),
+    }
+}
+
+fn solved(answer: Solved) -> Answer {
+    match answer {
+        Solved::Labelled(n) => one(0, n as u64),
+        Solved::Refused(refusal) => refused(refusal),
     }
 }
 

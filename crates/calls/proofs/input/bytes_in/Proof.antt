@@ -5,10 +5,6 @@ use lib.ListN.{length}
 use borrow.Author.Needs.{needs}
 use Rattle.calls.proofs.input.bytes_in.Statement.{statement}
 use Rattle.calls.proofs.input.bytes_in.Tie as tie
-use Rattle.calls.proofs.input.bytes_in.Reads as reads
-use Rattle.calls.proofs.input.bytes_in.Lts as lts
-use Rattle.calls.proofs.input.sizes_in.Reads as sizes-in-reads
-use Rattle.calls.proofs.input.word_in.Reads as word-in-reads
 
 abbrev Inv-loop : tie.InvT-loop
 Inv-loop buf₀ sizes good₀ i₀ buf good i = length buf ≡ length buf₀
@@ -16,43 +12,33 @@ Inv-loop buf₀ sizes good₀ i₀ buf good i = length buf ≡ length buf₀
 abbrev μ-loop : tie.MeasureT-loop
 μ-loop buf₀ sizes good₀ i₀ buf good i = sizes .count - i
 
--- src/input.rt:121:9
 sizes-in-requires : tie.Need-sizes-in-requires Inv-loop μ-loop
 sizes-in-requires c κs = search needs
 
--- src/input.rt:124:5
 loop-holds : tie.Need-loop-holds Inv-loop μ-loop
 loop-holds c = search needs
 
--- src/input.rt:125:13
 word-in-requires : tie.Need-word-in-requires Inv-loop μ-loop
 word-in-requires c κs = search needs
 
--- src/input.rt:126:18
 cast-buf : tie.Need-cast-buf Inv-loop μ-loop
 cast-buf c = search needs
 
--- src/input.rt:126:9
 slice-write-buf : tie.Need-slice-write-buf Inv-loop μ-loop
 slice-write-buf c = search needs
 
--- src/input.rt:128:9
 add-i : tie.Need-add-i Inv-loop μ-loop
 add-i c = search needs
 
--- src/input.rt:124:5
 loop-less : tie.Need-loop-less Inv-loop μ-loop
 loop-less c = search needs
 
--- src/input.rt:124:5
 loop-again : tie.Need-loop-again Inv-loop μ-loop
 loop-again c = search needs
 
--- src/input.rt:118:1
 same-length : tie.Need-same-length Inv-loop μ-loop
 same-length c = search needs
 
--- src/input.rt:118:1
 returns : tie.Need-returns Inv-loop μ-loop
 returns c = search needs
 
