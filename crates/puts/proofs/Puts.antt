@@ -16,7 +16,7 @@ use mir.Val.{Fits}
 use borrow.Author.Tests.{leb-true, not-false}
 use Rattle.classes.specs.declared.Class.{Class}
 use Rattle.tokens.specs.Numbers.{digit, digitsOf, decimalLen, decimalOf}
-use Rattle.tokens.specs.Tokens.{countText, classText}
+use Rattle.tokens.specs.Tokens.{countText, markDigits, behindLevel, classText}
 use Rattle.tokens.proofs.Values.{digits-length}
 use Rattle.tokens.proofs.Tokens.{class-length}
 use Rattle.puts.specs.Writing.{Put}
@@ -113,15 +113,15 @@ module _ (c : Class) (d : List ℕ) (at k : ℕ) (len : k ≡ decimalLen (c .lev
   long : length (decimalOf (c .level)) ≡ k
   long = digits-length 10 (decimalLen (c .level)) (c .level) ∙ sym len
 
-  size : length (classText c) ≡ k + 1 + 16
+  size : length (classText c) ≡ k + behindLevel
   size = omega (arith, class-length c, len)
 
-  pub class-nowhere : (b : Bool) → b ≡ leb (at + (k + 1 + 16)) (length d) → not b ≡ true → Put d at (classText c) d (length d + 1)
-  class-nowhere b e t = put-nowhere d at (classText c) (k + 1 + 16) b size e t
+  pub class-nowhere : (b : Bool) → b ≡ leb (at + (k + behindLevel)) (length d) → not b ≡ true → Put d at (classText c) d (length d + 1)
+  class-nowhere b e t = put-nowhere d at (classText c) (k + behindLevel) b size e t
 
-  module _ (b : Bool) (e : b ≡ leb (at + (k + 1 + 16)) (length d)) (t : not b ≡ false) where
-    room : at + (k + 1 + 16) ≤ length d
-    room = room-yes (at + (k + 1 + 16)) (length d) b e t
+  module _ (b : Bool) (e : b ≡ leb (at + (k + behindLevel)) (length d)) (t : not b ≡ false) where
+    room : at + (k + behindLevel) ≤ length d
+    room = room-yes (at + (k + behindLevel)) (length d) b e t
 
     pub level-room : (base : ℕ) → 0 < base → base ≤ 16 → DigitRoom base k d at
     level-room base h g = record { base-least = h; base-most = g; room = omega (arith, room) }
@@ -145,7 +145,7 @@ module _ (c : Class) (d : List ℕ) (at k : ℕ) (len : k ≡ decimalLen (c .lev
       pub marks-room : (base j b : ℕ) → 0 < base → base ≤ 16 → j ≤ 16 → DigitRoom base j (set d₁ s b) (s + 1)
       marks-room base j b h g f = record { base-least = h; base-most = g; room = rw length-set (omega (arith, slash-room)) }
 
-      pub class-there : (d₂ : List ℕ) (r : ℕ) → DigitsPut 16 16 (c .marks) (set d₁ s slash) (s + 1) d₂ r → Put d at (classText c) d₂ r
+      pub class-there : (d₂ : List ℕ) (r : ℕ) → DigitsPut 16 markDigits (c .marks) (set d₁ s slash) (s + 1) d₂ r → Put d at (classText c) d₂ r
       class-there d₂ r q =
           put-there d at (classText c) d₂ r (rw size room) (q .buffer ∙ rw (slash-put, after) both) (omega (arith, q .next, p .next, size))
         where
@@ -162,7 +162,7 @@ module _ (c : Class) (d : List ℕ) (at k : ℕ) (len : k ≡ decimalLen (c .lev
           after : s + 1 ≡ at + length (x ++ (slash ∷ []))
           after = rw length-append (omega (arith, place))
 
-          both : over (over d at (x ++ (slash ∷ []))) (at + length (x ++ (slash ∷ []))) (digitsOf 16 16 (c .marks)) ≡ over d at (classText c)
+          both : over (over d at (x ++ (slash ∷ []))) (at + length (x ++ (slash ∷ []))) (digitsOf 16 markDigits (c .marks)) ≡ over d at (classText c)
           both =
-              over-over d at (x ++ (slash ∷ [])) (omega (arith, after, place, long, room)) (digitsOf 16 16 (c .marks))
-              ∙ ap (over d at) (append-snoc x slash (digitsOf 16 16 (c .marks)))
+              over-over d at (x ++ (slash ∷ [])) (omega (arith, after, place, long, room)) (digitsOf 16 markDigits (c .marks))
+              ∙ ap (over d at) (append-snoc x slash (digitsOf 16 markDigits (c .marks)))

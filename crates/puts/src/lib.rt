@@ -2,9 +2,18 @@
 // the buffer's end, its length plus one, at which nothing has room; else it answers the place after what it put. So where several are put one
 // behind the other, the last answer tells whether there was room for all of them.
 use classes::Class;
+use keys::CAP_KEY;
+use keys::END_KEY;
+use keys::FLOOR_KEY;
+use keys::FOLLOW_KEY;
+use keys::FORM_KEY;
+use keys::ITEM_KEY;
 use keys::Key;
 use scans::DIGIT_0;
 use scans::SLASH;
+use tokens::BEHIND_LEVEL;
+use tokens::LETTER_0;
+use tokens::MARK_DIGITS;
 ghost use mathlib.Core.Path.{_≡_};
 ghost use Prim.Native.Nat.{_+_, _<_};
 ghost use lib.Dec.{leb};
@@ -14,12 +23,10 @@ ghost use Rattle.tokens.specs.Tokens.{countText, classText};
 ghost use Rattle.puts.specs.Writing.{Put};
 ghost use Rattle.puts.specs.InnerDigits.{DigitRoom, DigitsPut};
 
-// The bases of numbers, and how many digits the marks of a class have.
+// The bases of numbers.
 const DECIMAL: u64 = 10;
 
 const HEX: u64 = 16;
-
-const MARK_DIGITS: usize = 16;
 
 // Puts these bytes.
 pub fn put(bytes: &[u8], out: &mut [u8], at: usize) -> usize
@@ -41,12 +48,12 @@ pub fn put_key(key: Key, out: &mut [u8], at: usize) -> usize
     ensures { λ r. ⌜ Put (now (out .entry)) at (keyText key) (now (out .exit)) r ⌝ }
 {
     match key {
-        Key::Form => put(b"form=", out, at),
-        Key::Item => put(b"item=", out, at),
-        Key::Cap => put(b"cap=", out, at),
-        Key::Floor => put(b"floor=", out, at),
-        Key::Follow => put(b"follow=", out, at),
-        Key::End => put(b"end=", out, at),
+        Key::Form => put(&FORM_KEY, out, at),
+        Key::Item => put(&ITEM_KEY, out, at),
+        Key::Cap => put(&CAP_KEY, out, at),
+        Key::Floor => put(&FLOOR_KEY, out, at),
+        Key::Follow => put(&FOLLOW_KEY, out, at),
+        Key::End => put(&END_KEY, out, at),
     }
 }
 
@@ -66,7 +73,7 @@ pub fn put_class(class: Class, out: &mut [u8], at: usize) -> usize
     ensures { λ r. ⌜ Put (now (out .entry)) at (classText class) (now (out .exit)) r ⌝ }
 {
     let k = decimal_len(class.level);
-    if !has_room(out.len(), at, k + 1 + MARK_DIGITS) {
+    if !has_room(out.len(), at, k + BEHIND_LEVEL) {
         return out.len() + 1;
     }
     let slash = put_digits(DECIMAL, k, class.level, out, at);
@@ -107,7 +114,7 @@ fn digit_byte(d: u64) -> u8
     if d < DECIMAL {
         DIGIT_0 + d as u8
     } else {
-        b'a' + (d - DECIMAL) as u8
+        (LETTER_0 + d) as u8
     }
 }
 

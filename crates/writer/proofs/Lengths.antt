@@ -12,18 +12,22 @@ use Rattle.items.specs.Table.{nameOf, ItemsOk}
 use Rattle.items.proofs.Table.{nameLen-most, nameOf-length}
 use Rattle.laws.specs.First.{AllBelow}
 use Rattle.labels.specs.Labels.{labelsIn, LevelInRange}
-use Rattle.keys.specs.Keys.{keyText}
+use Rattle.keys.specs.Keys.{keyText, labelKey}
 use Rattle.keys.specs.declared.Key.{Key}
 use Rattle.tokens.specs.Numbers.{decimalLen}
 use Rattle.tokens.specs.Tokens.{countText, classText}
 use Rattle.tokens.proofs.Values.{digits-length, decimal-most, decimal-short}
 use Rattle.tokens.proofs.Tokens.{class-length}
-use Rattle.writer.specs.Texts.{pieces, formLine, endLine, labelKey, labelName, labelLine, labelsText}
+use Rattle.writer.specs.Texts.{pieces, formLine, endLine, labelName, labelLine, labelsText}
 use Rattle.refusals.specs.Sizes.{mostText}
 use Rattle.writer.proofs.Pieces.{pieces-none, pieces-snoc}
 
--- Pieces of at most 43 bytes each.
-pub pieces-most : (f : ℕ → List ℕ) (n : ℕ) → ((k : ℕ) → k < n → length (f k) ≤ 43) → length (pieces f 0 n) ≤ n * 43
+-- The most bytes of a label's line: its key, a name, a colon, a class and the LF.
+abbrev lineMost : ℕ
+lineMost = 6 + 16 + 1 + 19 + 1
+
+-- Pieces of at most so many bytes each.
+pub pieces-most : (f : ℕ → List ℕ) (n : ℕ) → ((k : ℕ) → k < n → length (f k) ≤ lineMost) → length (pieces f 0 n) ≤ n * lineMost
 pieces-most f zero h = omega (arith, ap length (pieces-none f 0))
 pieces-most f (suc n) h =
     omega (
@@ -44,7 +48,7 @@ end-most count =
       decimal-most count,
     )
 
-pub label-most : (t levels marks : List ℕ) (i : ℕ) → LevelInRange levels i → length (labelLine t levels marks i) ≤ 43
+pub label-most : (t levels marks : List ℕ) (i : ℕ) → LevelInRange levels i → length (labelLine t levels marks i) ≤ lineMost
 label-most t levels marks i h =
     omega (
       arith,

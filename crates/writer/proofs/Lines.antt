@@ -19,13 +19,13 @@ use Rattle.rules.specs.Table.{ruleAt}
 use Rattle.rules.specs.declared.Head.{Head}
 use Rattle.rules.specs.declared.Rule.{Rule}
 use Rattle.accepts.specs.Tables.{Tables}
-use Rattle.keys.specs.Keys.{keyText}
+use Rattle.keys.specs.Keys.{keyText, labelKey}
 use Rattle.keys.specs.declared.Key.{Key}
 use Rattle.tokens.specs.Tokens.{countText, classText}
 use Rattle.puts.specs.Writing.{Put}
 use Rattle.puts.specs.InnerGrowing.{Grown}
 use Rattle.puts.proofs.Growing.{put-grown, grown-put, grown-grown, front-there}
-use Rattle.writer.specs.Texts.{formLine, endLine, itemLine, itemLines, leftPiece, leftText, rightText, ruleKey, ruleLine, ruleLines, bookText, labelKey, labelName, labelLine, labelLines, labelsText}
+use Rattle.writer.specs.Texts.{formLine, endLine, itemLine, itemLines, leftPiece, leftText, rightText, ruleKey, ruleLine, ruleLines, bookText, labelName, labelLine, labelLines, labelsText}
 use Rattle.writer.specs.InnerTexts.{Named, NamedAt, LabelsReady, LabelsMade}
 use Rattle.writer.proofs.Lengths.{labels-short}
 use Rattle.writer.proofs.Pieces.{GrownBy, by-more, by-all}

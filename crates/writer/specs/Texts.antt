@@ -11,7 +11,7 @@ use Rattle.rules.specs.Record.{byKind, leftItem}
 use Rattle.rules.specs.Table.{ruleAt}
 use Rattle.rules.specs.declared.Head.{Head}
 use Rattle.rules.specs.declared.Rule.{Rule}
-use Rattle.keys.specs.Keys.{keyText}
+use Rattle.keys.specs.Keys.{keyText, labelKey}
 use Rattle.keys.specs.declared.Key.{Key}
 use Rattle.tokens.specs.Tokens.{countText, classText}
 
@@ -60,9 +60,6 @@ unfoldable pub bookText : Head → List ℕ → List ℕ → List ℕ
 bookText h t w = formLine ++ itemLines t (h .items) ++ ruleLines t w (h .rules) ++ endLine (1 + h .items + h .rules)
 
 -- "one line `label=NAME:CLASS` for each item in book order"
-abbrev pub labelKey : List ℕ
-labelKey = 108 ∷ 97 ∷ 98 ∷ 101 ∷ 108 ∷ 61 ∷ []
-
 abbrev pub labelName : List ℕ → ℕ → List ℕ
 labelName t i = labelKey ++ nameOf t i ++ colon ∷ []
 

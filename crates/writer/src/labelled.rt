@@ -3,6 +3,7 @@
 use super::book::end_line;
 use super::book::form_line;
 use super::book::put_name;
+use keys::LABEL_KEY;
 use labels::label_at;
 use puts::put;
 use puts::put_class;
@@ -19,7 +20,7 @@ fn label_name(items: &[u8], i: usize, out: &mut [u8], at: usize) -> usize
     requires { ⌜ NameAt (now items) i ⌝ }
     ensures { λ r. ⌜ Grown (now (out .entry)) at (labelName (now (items .entry)) i) (now (out .exit)) r ⌝ }
 {
-    let name = put(b"label=", out, at);
+    let name = put(&LABEL_KEY, out, at);
     let colon = put_name(items, i, out, name);
     put(&[COLON], out, colon)
 }

@@ -14,9 +14,6 @@ decimal-len-requires c κs = search needs
 add-has-room : tie.Need-add-has-room
 add-has-room c = omega (arith, c .decimal-len .ensures, decimal-most (c .before .before .args .class .level))
 
-add-has-room-2 : tie.Need-add-has-room-2
-add-has-room-2 c = omega (arith, c .decimal-len .ensures, decimal-most (c .before .before .args .class .level))
-
 has-room-requires : tie.Need-has-room-requires
 has-room-requires c κs = search needs
 
@@ -52,7 +49,6 @@ put-class-spec =
     (tie.spec
     decimal-len-requires
     add-has-room
-    add-has-room-2
     has-room-requires
     add-result
     returns
