@@ -4,6 +4,8 @@ use super::answer::one;
 use super::answer::refused;
 use super::answer::two;
 use super::input::Numbers;
+use assign::Assigned;
+use assign::assign;
 use reader::ReadBook;
 use reader::read;
 use rules::Head;
@@ -29,7 +31,8 @@ pub(crate) fn call(
     match routine {
         0 => book(read(text, items, rules)),
         1 => written(write(items, rules, head, out)),
-        _ => written(write_labels(items, a, levels, marks, out)),
+        2 => written(write_labels(items, a, levels, marks, out)),
+        _ => assigned(assign(text, items, levels, marks)),
     }
 }
 
@@ -44,5 +47,12 @@ fn written(answer: Written) -> Answer {
     match answer {
         Written::Text(len) => one(0, len as u64),
         Written::Refused(refusal) => refused(refusal),
+    }
+}
+
+fn assigned(answer: Assigned) -> Answer {
+    match answer {
+        Assigned::Labelled(head) => two(0, head.items as u64, head.rules as u64),
+        Assigned::Refused(refusal) => refused(refusal),
     }
 }
