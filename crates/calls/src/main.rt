@@ -34,7 +34,7 @@ const MOST_RULES: usize = 14000;
 
 const MOST_LABELS: usize = 300;
 
-// How many routines there are.
+// The number of routines.
 const ROUTINES: u64 = 28;
 
 // The turns are counted down from a number that no run uses up, since a proved loop has to end.
