@@ -65,9 +65,3 @@ module _ {f : ℕ → List ℕ} {n : ℕ} {d₀ : List ℕ} {r₀ : ℕ} where
   by-all {k = k} {d′ = d′} {r = r} g p h =
       let same : k ≡ n = omega (arith, p .within) in
       grown-grown g (subst (λ (j : ℕ). Grown d₀ r₀ (pieces f 0 j) d′ r) same (p .grown))
-
--- Equal pieces make equal texts.
-pub pieces-same : (f g : ℕ → List ℕ) (k c : ℕ) → ((j : ℕ) → j < k + c → f j ≡ g j) → pieces f k c ≡ pieces g k c
-unfolding pieces
-pieces-same f g k zero h = refl
-pieces-same f g k (suc c) h = ap₂ _++_ (h k (omega arith)) (pieces-same f g (suc k) c (λ j s. h j (omega arith)))
