@@ -138,7 +138,16 @@ fn made(
     kept: &mut [bool],
 ) -> Answer {
     match routine {
-        0..=2 | 10 => text_calls::call(routine, numbers, text, items, out, rules, levels, marks),
+        0..=2 | 9 | 10 => text_calls::call(
+            routine,
+            numbers,
+            text,
+            items,
+            out,
+            rules,
+            levels,
+            marks,
+        ),
         3..=8 => table_calls::call(routine, numbers, text, items, rules, levels, marks),
         11..=16 => label_calls::call(routine, numbers, rules, levels, marks),
         20..=24 => token_calls::reading(routine, numbers, text),

@@ -4,6 +4,7 @@ use super::answer::one;
 use super::answer::refused;
 use super::answer::two;
 use super::input::Numbers;
+use answers::answer;
 use assign::Assigned;
 use assign::assign;
 use reader::ReadBook;
@@ -32,6 +33,7 @@ pub(crate) fn call(
         0 => book(read(text, items, rules)),
         1 => written(write(items, rules, head, out)),
         2 => written(write_labels(items, a, levels, marks, out)),
+        9 => written(answer(text, out)),
         _ => assigned(assign(text, items, levels, marks)),
     }
 }
