@@ -1,0 +1,59 @@
+-- `bytes_out` meets its contract. Assumes nothing.
+use Prim.Native.Nat.{_≤_, _-_}
+use lib.ListN.{length}
+use borrow.Author.Needs.{needs}
+use Rattle.calls.proofs.output.bytes_out.Statement.{statement}
+use Rattle.calls.proofs.output.bytes_out.Tie as tie
+
+abbrev Inv-loop : tie.InvT-loop
+Inv-loop bytes chunk₀ at₀ i₀ chunk at i = i ≤ length bytes
+
+abbrev μ-loop : tie.MeasureT-loop
+μ-loop bytes chunk₀ at₀ i₀ chunk at i = length bytes - i
+
+line-requires : tie.Need-line-requires Inv-loop μ-loop
+line-requires c κs = search needs
+
+loop-holds : tie.Need-loop-holds Inv-loop μ-loop
+loop-holds c = search needs
+
+shared-slice-read-wide : tie.Need-shared-slice-read-wide Inv-loop μ-loop
+shared-slice-read-wide c = search needs
+
+wide-requires : tie.Need-wide-requires Inv-loop μ-loop
+wide-requires c κs = search needs
+
+line-requires-2 : tie.Need-line-requires-2 Inv-loop μ-loop
+line-requires-2 c κs = search needs
+
+add-i : tie.Need-add-i Inv-loop μ-loop
+add-i c = search needs
+
+loop-less : tie.Need-loop-less Inv-loop μ-loop
+loop-less c = search needs
+
+loop-again : tie.Need-loop-again Inv-loop μ-loop
+loop-again c = search needs
+
+flush-requires : tie.Need-flush-requires Inv-loop μ-loop
+flush-requires c κs = search needs
+
+returns : tie.Need-returns Inv-loop μ-loop
+returns c = search needs
+
+pub bytes-out-spec : {M : Type 1} → statement M
+bytes-out-spec =
+    tie.close
+    (tie.spec
+    Inv-loop
+    μ-loop
+    line-requires
+    loop-holds
+    shared-slice-read-wide
+    wide-requires
+    line-requires-2
+    add-i
+    loop-less
+    loop-again
+    flush-requires
+    returns)

@@ -1,0 +1,87 @@
+// What a call answers.
+use super::output::bit;
+use classes::Class;
+use refusals::Refusal;
+use refusals::fault_number;
+use rules::Rule;
+use rules::WORDS;
+
+// The refusal's number, 0 for a success; its place, or which success it is; and the values of a success, as many as are counted. A rule has the most.
+pub(crate) struct Answer {
+    pub refusal: u64,
+    pub which: u64,
+    pub count: usize,
+    pub values: [u64; WORDS],
+}
+
+// A refusal.
+pub(crate) fn refused(refusal: Refusal) -> Answer {
+    let fault = refusal.fault;
+    Answer {
+        refusal: fault_number(fault),
+        which: refusal.place,
+        count: 0,
+        values: [0; WORDS],
+    }
+}
+
+// Successes with no value, one, two and three.
+pub(crate) fn none(which: u64) -> Answer {
+    success(which, 0, 0, 0, 0)
+}
+
+pub(crate) fn one(which: u64, first: u64) -> Answer {
+    success(which, 1, first, 0, 0)
+}
+
+pub(crate) fn two(which: u64, first: u64, second: u64) -> Answer {
+    success(which, 2, first, second, 0)
+}
+
+pub(crate) fn three(which: u64, first: u64, second: u64, third: u64) -> Answer {
+    success(which, 3, first, second, third)
+}
+
+// Yes or no.
+pub(crate) fn says(b: bool) -> Answer {
+    one(0, bit(b))
+}
+
+// A class.
+pub(crate) fn class(class: Class) -> Answer {
+    two(0, class.level, class.marks)
+}
+
+// The words of a rule.
+pub(crate) fn rule(rule: Rule) -> Answer {
+    let left = rule.left;
+    Answer {
+        refusal: 0,
+        which: 0,
+        count: WORDS,
+        values: [
+            rule.kind,
+            rule.count,
+            left[0],
+            left[1],
+            left[2],
+            left[3],
+            left[4],
+            left[5],
+            left[6],
+            left[7],
+            rule.right,
+            rule.class.level,
+            rule.class.marks,
+        ],
+    }
+}
+
+fn success(which: u64, count: usize, first: u64, second: u64, third: u64) -> Answer {
+    Answer {
+        refusal: 0,
+        which,
+        count,
+        values: [first, second, third, 0, 0, 0, 0, 0, 0, 0, 0, 0, 0],
+    }
+}
