@@ -1,6 +1,7 @@
 // Makes the calls that standard input has, and prints the answer of each and what it leaves in the lent buffers. tests/calls/README.md says how a call
 // and an answer are written, and which routine has which number.
 mod answer;
+mod export_calls;
 mod front;
 mod input;
 mod label_calls;
@@ -150,6 +151,7 @@ fn made(
         ),
         3..=8 => table_calls::call(routine, numbers, text, items, rules, levels, marks),
         11..=16 => label_calls::call(routine, numbers, rules, levels, marks),
+        17..=19 => export_calls::call(routine, numbers, text, items, out, levels, marks, kept),
         20..=24 => token_calls::reading(routine, numbers, text),
         _ => token_calls::putting(routine, numbers, items, out),
     }
