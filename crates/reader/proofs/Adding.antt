@@ -1,34 +1,31 @@
 -- An item or a rule added to its table, one law for each answer that the code can give; and that a line of each does what its addition does. They rest on the
 -- laws of look-ups and of what a put leaves in a buffer.
 -- Assumes nothing.
-use mathlib.Core.Path.{_≡_, refl, sym, ap, _∙_}
-use mathlib.Core.Bool.{Bool, true, false, cond, not}
+use mathlib.Core.Path.{_≡_, refl, sym, _∙_}
+use mathlib.Core.Bool.{Bool, true, false, not}
 use mathlib.Core.List.{List, [], _∷_}
 use mathlib.Core.Logic.{inl, inr}
-use Prim.Native.Nat.{ℕ, suc, _+_, _*_, _≤_, _<_}
+use Prim.Native.Nat.{ℕ, _*_, _≤_, _<_}
 use native.Mathlib.Omega.{arith}
-use lib.ListN.{length, drop, replicate}
-use mir.Syntax.{w64}
-use mir.Val.{Fits}
+use lib.ListN.{drop, replicate}
 use types.Run.{OneOf}
 use denote.Enum as enum
 use borrow.Author.Tests.{lt-ltb, le-ltb, le-leb, lt-leb, not-true, not-false}
-use Rattle.refusals.specs.Sizes.{mostText, mostItems, mostRules, mostLeft}
+use Rattle.refusals.specs.Sizes.{mostItems, mostRules, mostLeft}
 use Rattle.refusals.specs.declared.Fault.{Fault}
 use Rattle.items.specs.Names.{nameRoom}
 use Rattle.items.specs.Lookup.{saidFound, findIn, FindSays}
 use Rattle.items.specs.declared.Found.{Found}
 use Rattle.items.proofs.Found as found
 use Rattle.items.proofs.Lookup.{find-told}
-use Rattle.rules.specs.Table.{ruleWords, RulePut}
-use Rattle.rules.specs.declared.Rule.{Rule}
+use Rattle.rules.specs.Table.{RulePut}
 use Rattle.rules.proofs.Put.{put-told}
 use Rattle.puts.specs.Writing.{Put}
 use Rattle.puts.proofs.Placed.{put-buffer}
 use Rattle.lines.specs.declared.value.Value.{Value}
 use Rattle.reader.specs.declared.line.Added.{Added}
-use Rattle.reader.specs.Names.{isItem, everyItem, numbersOf, rising}
-use Rattle.reader.specs.Lines.{isAbsent, leftPlaces, rightItemAt}
+use Rattle.reader.specs.Names.{numbersOf, rising}
+use Rattle.reader.specs.Lines.{isAbsent, leftPlaces}
 use Rattle.reader.specs.InnerAdding.{LooksUp, NameReady, ItemAdded, NamesReady, rightAdded, RuleAdded}
 use Rattle.reader.proofs.LookUps.{not-item}
 

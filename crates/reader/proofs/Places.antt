@@ -5,7 +5,6 @@ use mathlib.Core.Path.{_≡_, refl, subst}
 use mathlib.Core.Bool.{Bool, true, false, cond}
 use mathlib.Core.List.{List}
 use Prim.Native.Nat.{ℕ, _+_, _≤_}
-use native.Mathlib.Nat.{le-refl}
 use native.Mathlib.Omega.{arith}
 use lib.Dec.{ltb}
 use lib.ListN.{length, drop, length-drop}
@@ -17,7 +16,7 @@ use Rattle.lines.specs.Lines.{lineLen}
 use Rattle.lines.specs.declared.Line.{Line}
 use Rattle.lines.proofs.Told.{LineHere}
 use Rattle.reader.specs.declared.ReadBook.{ReadBook}
-use Rattle.reader.specs.Lines.{State, start, Result, refusedAt}
+use Rattle.reader.specs.Lines.{State, start, refusedAt}
 use Rattle.reader.specs.Reading.{readText, readWhole}
 use Rattle.reader.proofs.LineCases.{Cases, read-says}
 

@@ -4,7 +4,7 @@ use mathlib.Core.Path.{_≡_, refl, sym, ap₂, _∙_}
 use mathlib.Core.Bool.{Bool, true, false, cond, _&&_, not}
 use mathlib.Core.List.{List, [], _∷_}
 use mathlib.Core.Logic.{inl, inr}
-use Prim.Native.Nat.{ℕ, _+_, _-_, _*_, _≤_, _<_}
+use Prim.Native.Nat.{ℕ, _+_, _-_, _≤_, _<_}
 use native.Mathlib.Nat.{add-assoc}
 use native.Mathlib.Omega.{arith}
 use lib.Dec.{ltb, leb}
@@ -15,7 +15,7 @@ use mir.Val.{Fits}
 use types.Run.{OneOf}
 use denote.Enum as enum
 use borrow.Author.Tests.{eq-eqb, ne-eqb, ltb-true, not-true, not-false}
-use Rattle.laws.proofs.Bools.{and-left, true-not-false}
+use Rattle.laws.proofs.Bools.{and-left}
 use Rattle.refusals.specs.Sizes.{mostText, mostItems, mostRules, mostLeft}
 use Rattle.refusals.specs.declared.Fault.{Fault}
 use Rattle.items.specs.Lookup.{findIn}

@@ -2,10 +2,8 @@
 -- Assumes nothing.
 use mathlib.Core.Path.{_≡_, refl, sym, ap, _∙_}
 use mathlib.Core.List.{List}
-use Prim.Native.Nat.{ℕ, suc, _+_, _*_, _≤_, _<_, min}
-use native.Mathlib.Nat.{le-antisymm}
+use Prim.Native.Nat.{ℕ, _+_, _*_, _≤_}
 use native.Mathlib.Numerals.{add-one}
-use native.Mathlib.Omega.{arith}
 use lib.ListN.{length, getD}
 use Rattle.laws.proofs.Lists.{zero-past}
 use Rattle.classes.specs.Class.{joined, lowest}
@@ -14,7 +12,6 @@ use Rattle.meaning.specs.Rules.{joinUpTo, joinOver}
 use Rattle.meaning.specs.Classes.{classes}
 use Rattle.rules.specs.declared.Rule.{Rule}
 use Rattle.rules.specs.Record.{leftOf, leftItem, leftCount}
-use Rattle.labels.specs.Labels.{labelsIn}
 use Rattle.rules.specs.Table.{ruleWords, wordAt}
 
 pub word-past : (t : List ℕ) (r k : ℕ) → length t ≤ r * ruleWords + k → 0 ≡ wordAt t r k

@@ -1,6 +1,6 @@
 -- Words put into a table, and what it holds after one more rule: the rule that was put, and the rules before it as they were. They rest on the laws of a put.
 -- Assumes nothing.
-use mathlib.Core.Path.{_≡_, refl}
+use mathlib.Core.Path.{_≡_, refl, sym, _∙_}
 use mathlib.Core.Bool.{Bool, true, false}
 use mathlib.Core.List.{List, [], _∷_}
 use Prim.Native.Nat.{ℕ, zero, suc, _+_, _-_, _*_, _≤_, _<_, zero-le}
@@ -53,6 +53,16 @@ place-past h = put-no-room (omega arith)
 
 pub words-past : {x : List ℕ} {at : ℕ} {d : List ℕ} → at ≤ length d → length d - at < length x → WordsPut x at d false d
 words-past h g = put-no-room (omega arith)
+
+-- A put has one result: the answer, and the table.
+pub record SamePut (a b : Bool) (d e : List ℕ) : Type 0 where
+  pub answer : a ≡ b
+  pub table : d ≡ e
+
+pub words-put-unique : {x : List ℕ} {at : ℕ} {d : List ℕ} {a b : Bool} {d₁ d₂ : List ℕ} → WordsPut x at d a d₁ → WordsPut x at d b d₂ → SamePut a b d₁ d₂
+words-put-unique p q =
+    let same = p .told ∙ sym (q .told) in
+    record { answer = same; table = p .table ∙ rw same (sym (q .table)) }
 
 -- Where there is room, words are put.
 pub put-told : {x : List ℕ} {at : ℕ} {d : List ℕ} {b : Bool} {d′ : List ℕ} → WordsPut x at d b d′ → at + length x ≤ length d → d′ ≡ over d at x

@@ -1,8 +1,5 @@
 -- `rule_at` meets its contract. Assumes nothing.
-use mathlib.Core.Path.{_∙_, ap₂}
-use mathlib.Core.List.{[], _∷_}
-use Rattle.classes.specs.Class.{classOf}
-use Rattle.rules.specs.Table.{ruleAt}
+use Rattle.rules.proofs.Words.{rule-made}
 use borrow.Author.Needs.{needs}
 use Rattle.rules.proofs.rule_at.Statement.{statement}
 use Rattle.rules.proofs.rule_at.Tie as tie
@@ -50,8 +47,7 @@ new-requires : tie.Need-new-requires
 new-requires c κs = search needs
 
 returns : tie.Need-returns
-unfolding ruleAt
-returns c = λ i. record { kind = c .before .before .before .before .before .before .before .before .before .before .before .before .before .word .ensures i; count = c .before .before .before .before .before .before .before .before .before .before .before .before .word2 .ensures i; left = c .before .before .before .before .before .before .before .before .before .before .before .word3 .ensures i ∷ c .before .before .before .before .before .before .before .before .before .before .word4 .ensures i ∷ c .before .before .before .before .before .before .before .before .before .word5 .ensures i ∷ c .before .before .before .before .before .before .before .before .word6 .ensures i ∷ c .before .before .before .before .before .before .before .word7 .ensures i ∷ c .before .before .before .before .before .before .word8 .ensures i ∷ c .before .before .before .before .before .word9 .ensures i ∷ c .before .before .before .before .word10 .ensures i ∷ []; right = c .before .before .before .word11 .ensures i; class = (c .new .ensures ∙ ap₂ classOf (c .before .before .word12 .ensures) (c .before .word13 .ensures)) i }
+returns c = search (rule-made, needs)
 
 pub rule-at-spec : {M : Type 1} → statement M
 rule-at-spec =
