@@ -133,7 +133,11 @@ module _ (P : Parts) (W : PartLaws P) (isb : P .values .Val → Bool) (isb-holds
   refusedb-holds p t = record {
     isPart = ltb→lt p (P .count) (and-left (ltb p (P .count)) _ rest);
     unmet = λ f y. T-not (possibleb p) (and-left (not (possibleb p)) _ parts) (labelling-solvable (partValues P p) (numbersLattice (P .top p)) (inPart P p b) (inside-part P W b inside p) (λ i. P .top p) y (y .labels));
-    lower = λ q s. (labelsOf (partValues P q) (numbersLattice (P .top q)) (greatestList (partValues P q) (numbersLattice (P .top q)) (inPart P q b) (λ i. P .top q)), solvable-labels (partValues P q) (numbersLattice (P .top q)) (inPart P q b) (inside-part P W b inside q) (λ i. P .top q) (λ i l. omega arith) (every-at p possibleb (and-right (not (possibleb p)) _ parts) q s));
+    lower = λ q s. (
+      labelsOf (partValues P q) (numbersLattice (P .top q)) (greatestList (partValues P q) (numbersLattice (P .top q)) (inPart P q b) (λ i. P .top q)),
+      solvable-labels (partValues P q) (numbersLattice (P .top q)) (inPart P q b) (inside-part P W b inside q) (λ i. P .top q) (λ i l. omega arith)
+          (every-at p possibleb (and-right (not (possibleb p)) _ parts) q s),
+    );
   }
     where
       inside : Inside b
