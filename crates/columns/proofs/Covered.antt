@@ -12,7 +12,6 @@ use lib.Seq.{getD-set-same, getD-set-other, getD-take, drop-drop, drop-set-lt, l
 use Rattle.laws.specs.Tells.{Tells}
 use Rattle.classes.specs.Class.{Covers}
 use Rattle.classes.specs.declared.Class.{Class}
-use Rattle.items.specs.Lookup.{foundPlace}
 use Rattle.exports.specs.Names.{KeepsCovered}
 use Rattle.columns.specs.Inner.{Numbered, Covering}
 
@@ -51,7 +50,8 @@ module _ {labels : ℕ → Class} {reader : Class} {numbers : List ℕ} {fields 
     columns = length-take-le fields after (omega (arith, w .sized)) ∙ e;
     covered = λ c i g f.
         let inside : c < fields = omega arith in
-        let same : i ≡ getD numbers c 0 = ap foundPlace (sym f ∙ s .each c g) in
+        let at = sym f ∙ s .each c g in
+        let same : i ≡ getD numbers c 0 = cc in
         rw (getD-take fields after c false inside, same) (w .told c inside);
   }
 

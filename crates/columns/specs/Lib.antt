@@ -1,3 +1,4 @@
--- What the contracts of `columns` cite: the promise of `kept_columns`, and what the inner functions need and give.
+-- What the contracts of `columns` cite: the promises of `reader_class` and of `kept_columns`. Inner is what the inner functions need and give.
+pub mod Reader
 pub mod Columns
 pub mod Inner

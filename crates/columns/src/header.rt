@@ -4,25 +4,33 @@ use classes::Class;
 use items::Found;
 use items::find;
 use labels::label_at;
-use records::CSV_HEADER;
-use records::CSV_SYNTAX;
+use records::MOST_FIELDS;
 use records::Size;
-use records::field_len;
-use records::first_record;
-use records::read_field;
+use records::part;
+use records::read_row;
 use refusals::Fault;
-use refusals::fault_number;
+use refusals::Refusal;
+use scans::QUOTE;
 ghost use mathlib.Core.Path.{_≡_};
 ghost use Prim.Native.Nat.{_≤_};
-ghost use lib.ListN.{length, take, drop};
+ghost use lib.ListN.{length};
 ghost use Rattle.laws.specs.Tells.{Tells};
 ghost use Rattle.items.specs.Lookup.{findIn};
 ghost use Rattle.labels.specs.Labels.{labelsIn};
+ghost use Rattle.records.specs.Fields.{partOf};
+ghost use Rattle.records.specs.Inner.{FieldSpan, fieldsTo};
 ghost use Rattle.exports.specs.Names.{unquoted};
-ghost use Rattle.columns.specs.Columns.{HeaderSays};
-ghost use Rattle.columns.specs.Inner.{fieldsIn, FieldHere, Quoted, Holds, LookReady, LooksUp, nothingAt, NamesSay, HeadSays, Room, CoverReady, Covering, KeepSays};
+ghost use Rattle.columns.specs.Columns.{saidColumns, HeaderSays};
+ghost use Rattle.columns.specs.Inner.{refusedFor, Quoted, Holds, NumberRoom, HeaderReady, FindsItems, HeadSays, CoverReady, Covering, KeepSays};
 
-// The columns of an export by the header at its front, for items with these names and labels.
+// A refusal.
+pub(crate) fn refused(fault: Fault, place: u64) -> Columns
+    ensures { λ r. ⌜ r ≡ refusedFor fault place ⌝ }
+{
+    Columns::Refused(Refusal { fault, place })
+}
+
+// The columns of an export by the header at its front, for n items with these names and labels.
 pub(crate) fn by_header(
     items: &[u8],
     n: usize,
@@ -33,96 +41,88 @@ pub(crate) fn by_header(
     last: bool,
     kept: &mut [bool],
 ) -> Columns
-    ensures { λ r. ⌜ HeaderSays (now (items .entry)) n (labelsIn (now (levels .entry)) (now (marks .entry))) reader (now (export .entry)) last (now (kept .entry)) r (now (kept .exit)) ⌝ }
+    ensures { λ r. ⌜ HeaderSays (now (items .entry)) n (labelsIn (now (levels .entry)) (now (marks .entry))) reader (now (export .entry)) last (now (kept .entry)) (saidColumns r) (now (kept .exit)) ⌝ }
 {
-    let mut numbers = [0u64; 256];
-    match read_header(items, n, export, last, &mut numbers) {
-        Columns::Kept(fields) => keep(&numbers, fields, levels, marks, reader, kept),
-        Columns::More => Columns::More,
-        Columns::Refused(number, place) => Columns::Refused(number, place),
-    }
+    let mut numbers = [0u64; MOST_FIELDS];
+    let found = read_header(items, n, export, last, &mut numbers);
+    let Columns::Kept(fields) = found else {
+        return found;
+    };
+    keep(&numbers, fields, levels, marks, reader, kept)
 }
 
 // Reads the header at the front of an export, and writes the item of each column.
 fn read_header(items: &[u8], n: usize, export: &[u8], last: bool, numbers: &mut [u64]) -> Columns
-    requires { ⌜ Room (now numbers) ⌝ }
+    requires { ⌜ NumberRoom (now numbers) ⌝ }
     ensures { λ r. ⌜ HeadSays (now (items .entry)) n (now (export .entry)) last (now (numbers .exit)) r ⌝ }
 {
     if export.len() == 0 {
-        return nothing(last);
+        if last {
+            return refused(Fault::CsvSyntax, 1);
+        }
+        return Columns::More;
     }
-    match first_record(export, last) {
-        Size::Whole(fields, _) => names(items, n, export, fields, numbers),
+    let mut ends = [0usize; MOST_FIELDS];
+    match read_row(export, 0, last, MOST_FIELDS, &mut ends) {
+        Size::Whole(header) => if find_items(items, n, export, &ends, header.fields, numbers) {
+            Columns::Kept(header.fields)
+        } else {
+            refused(Fault::CsvHeader, 1)
+        },
         Size::More => Columns::More,
-        Size::Bad => Columns::Refused(CSV_SYNTAX, 1),
+        Size::Bad => refused(Fault::CsvSyntax, 1),
     }
 }
 
-// Of a text with no bytes: no header, if it is the last text.
-fn nothing(last: bool) -> Columns
-    ensures { λ r. ⌜ r ≡ nothingAt last ⌝ }
-{
-    if last {
-        Columns::Refused(CSV_SYNTAX, 1)
-    } else {
-        Columns::More
-    }
-}
-
-// The names of a header with so many fields.
-fn names(items: &[u8], n: usize, export: &[u8], fields: usize, numbers: &mut [u64]) -> Columns
-    requires { ⌜ LookReady (now export) fields (now numbers) ⌝ }
-    ensures { λ r. ⌜ NamesSay (now (items .entry)) n (fieldsIn (now (export .entry))) (now (numbers .exit)) r ⌝ }
-{
-    if look_up(items, n, export, fields, numbers) {
-        Columns::Kept(fields)
-    } else {
-        Columns::Refused(CSV_HEADER, 1)
-    }
-}
-
-// Looks up the names of a header, and writes the item of each column; no where one is no item or is repeated.
-fn look_up(items: &[u8], n: usize, export: &[u8], fields: usize, numbers: &mut [u64]) -> bool
-    requires { ⌜ LookReady (now export) fields (now numbers) ⌝ }
-    ensures { λ r. ⌜ LooksUp (now (items .entry)) n (fieldsIn (now (export .entry))) r (now (numbers .exit)) ⌝ }
+// Looks up the names of a header whose fields end at these places, and writes the item of each column; no where one is no item or is repeated.
+fn find_items(
+    items: &[u8],
+    n: usize,
+    export: &[u8],
+    ends: &[usize],
+    fields: usize,
+    numbers: &mut [u64],
+) -> bool
+    requires { ⌜ HeaderReady (now export) (now ends) fields (now numbers) ⌝ }
+    ensures { λ r. ⌜ FindsItems (now (items .entry)) n (fieldsTo (now (export .entry)) 0 (now (ends .entry)) fields) r (now (numbers .exit)) ⌝ }
 {
     let mut at = 0;
     let mut c = 0;
     while c < fields {
-        let len = field_len(read_field(export, at));
-        let Found::At(i) = item_at(items, n, export, at, len) else {
+        let end = ends[c];
+        let Found::At(i) = item_at(items, n, export, at, end) else {
             return false;
         };
         if holds(numbers, c, i as u64) {
             return false;
         }
         numbers[c] = i as u64;
-        at = at + len + 1;
+        at = end + 1;
         c += 1;
     }
     true
 }
 
 // The item that a field names, its outer quotes off. A doubled quote stays as it is: no name has a quote, single or doubled.
-fn item_at(items: &[u8], n: usize, text: &[u8], at: usize, len: usize) -> Found
-    requires { ⌜ FieldHere (now text) at len ⌝ }
-    ensures { λ r. ⌜ r ≡ findIn (now (items .entry)) n (unquoted (take len (drop at (now (text .entry))))) ⌝ }
+fn item_at(items: &[u8], n: usize, text: &[u8], from: usize, to: usize) -> Found
+    requires { ⌜ FieldSpan (now text) from to ⌝ }
+    ensures { λ r. ⌜ r ≡ findIn (now (items .entry)) n (unquoted (partOf (now (text .entry)) from to)) ⌝ }
 {
-    if is_quoted(text, at, len) {
-        return find(items, n, &text[at + 1..at + len - 1]);
+    if is_quoted(text, from, to) {
+        return find(items, n, part(text, from + 1, to - 1));
     }
-    find(items, n, &text[at..at + len])
+    find(items, n, part(text, from, to))
 }
 
 // Whether a field has quotes around it.
-fn is_quoted(text: &[u8], at: usize, len: usize) -> bool
-    requires { ⌜ FieldHere (now text) at len ⌝ }
-    ensures { λ r. ⌜ Tells (Quoted (now (text .entry)) at len) r ⌝ }
+fn is_quoted(text: &[u8], from: usize, to: usize) -> bool
+    requires { ⌜ FieldSpan (now text) from to ⌝ }
+    ensures { λ r. ⌜ Tells (Quoted (now (text .entry)) from to) r ⌝ }
 {
-    if len < 2 {
+    if to - from < 2 {
         return false;
     }
-    text[at] == b'"'
+    text[from] == QUOTE
 }
 
 // Whether a number is one of the first c.
@@ -153,7 +153,7 @@ fn keep(
     ensures { λ r. ⌜ KeepSays (labelsIn (now (levels .entry)) (now (marks .entry))) reader (now (numbers .entry)) fields (now (kept .entry)) r (now (kept .exit)) ⌝ }
 {
     if kept.len() < fields {
-        return Columns::Refused(fault_number(Fault::NoRoom), 0);
+        return refused(Fault::NoRoom, 0);
     }
     cover(numbers, fields, levels, marks, reader, kept);
     Columns::Kept(fields)

@@ -1,65 +1,58 @@
--- `kept_columns` meets its promise, one law for each answer of reading the book. Assumes nothing.
-use mathlib.Core.Path.{refl}
+-- `kept_columns` meets its contract, one law for each of its tests. Assumes nothing.
 use borrow.Author.Needs.{needs}
-use Rattle.columns.proofs.Says.{tables-ready, columns-book, columns-refused}
+use Rattle.columns.proofs.Says.{says-items, says-labels, says-label, says-header}
 use Rattle.columns.proofs.kept_columns.Statement.{statement}
 use Rattle.columns.proofs.kept_columns.Tie as tie
 
-slice-aggregate-read : tie.Need-slice-aggregate-read
-slice-aggregate-read c = search needs
+items-ok-requires : tie.Need-items-ok-requires
+items-ok-requires c κs = search needs
 
-slice-aggregate-read-2 : tie.Need-slice-aggregate-read-2
-slice-aggregate-read-2 c = search needs
+refused-requires : tie.Need-refused-requires
+refused-requires c κs = search needs
 
-read-requires : tie.Need-read-requires
-read-requires c κs = search needs
+returns : tie.Need-returns
+returns c = search (says-items, needs)
 
-enum-known-n : tie.Need-enum-known-n
-enum-known-n c = search needs
+has-room-requires : tie.Need-has-room-requires
+has-room-requires c κs = search needs
 
-slice-aggregate-label : tie.Need-slice-aggregate-label
-slice-aggregate-label c = search needs
+refused-requires-2 : tie.Need-refused-requires-2
+refused-requires-2 c κs = search needs
 
-slice-aggregate-label-2 : tie.Need-slice-aggregate-label-2
-slice-aggregate-label-2 c = search needs
+returns-2 : tie.Need-returns-2
+returns-2 c = search (says-labels, needs)
 
-label-requires : tie.Need-label-requires
-label-requires c κs =
-    tables-ready (c .before .before .before .before .before .before .before .before .read .ensures)
-    (c .before .before .before .before .n .given .1)
+first-bad-requires : tie.Need-first-bad-requires
+first-bad-requires c κs = search needs
 
-enum-known-fault : tie.Need-enum-known-fault
-enum-known-fault c = search needs
+refused-requires-3 : tie.Need-refused-requires-3
+refused-requires-3 c κs = search needs
 
-fault-number-requires : tie.Need-fault-number-requires
-fault-number-requires c κs = search needs
+returns-3 : tie.Need-returns-3
+returns-3 c = search (says-label, needs)
+
+by-header-requires : tie.Need-by-header-requires
+by-header-requires c κs = search needs
 
 same-length : tie.Need-same-length
 same-length c = search needs
 
-returns : tie.Need-returns
-returns c =
-    columns-book (c .before .before .before .before .before .before .before .before .before .before .before .read .ensures) refl refl
-    (c .before .before .before .before .before .before .before .n .given .1) (c .before .before .label .ensures)
-
-returns-2 : tie.Need-returns-2
-returns-2 c =
-    columns-refused (c .before .before .before .before .before .before .read .ensures) refl refl (c .before .before .fault .given .1)
-    (c .fault-number .ensures)
+returns-4 : tie.Need-returns-4
+returns-4 c = search (says-header, needs)
 
 pub kept-columns-spec : {M : Type 1} → statement M
 kept-columns-spec =
     tie.close
     (tie.spec
-    slice-aggregate-read
-    slice-aggregate-read-2
-    read-requires
-    enum-known-n
-    slice-aggregate-label
-    slice-aggregate-label-2
-    label-requires
-    enum-known-fault
-    fault-number-requires
-    same-length
+    items-ok-requires
+    refused-requires
     returns
-    returns-2)
+    has-room-requires
+    refused-requires-2
+    returns-2
+    first-bad-requires
+    refused-requires-3
+    returns-3
+    by-header-requires
+    same-length
+    returns-4)
