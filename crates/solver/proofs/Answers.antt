@@ -29,7 +29,7 @@ use Rattle.accepts.specs.Accepted.{TableAccepted}
 use Rattle.accepts.proofs.Inside.{table-inside}
 use Rattle.solver.specs.Solving.{Buffers, held, labelsOf, saidSolved, SolveSays, bad-table, no-room, no-labelling, writes-labels}
 use Rattle.solver.specs.InnerSteps.{labelsAt}
-use Rattle.solver.specs.InnerLowers.{CopyRoom, Copied}
+use Rattle.solver.specs.InnerLowers.{Copied}
 use Rattle.solver.specs.InnerLabels.{Bounded, WantedEverywhere, LabelSays, labelled, unlabelled}
 use Rattle.solver.specs.declared.Solved.{Solved}
 use Rattle.solver.specs.declared.label.Outcome.{Outcome}
@@ -63,21 +63,17 @@ start-bounded {h} {t} told passed l m small = record {
     top zero s = small
     top (suc k) s = omega (arith, bit-small k m)
 
--- A list for as many items as a book may have.
-pub record FullSize (l : List ℕ) : Type 0 where
-  pub size : length l ≡ mostItems
-
--- What copying the labels out asks.
+-- What copying the labels out asks, of arrays for as many items as a book may have.
 module _ {h : Head} {t : List ℕ} {b : Bool} (table : Tells (TableAccepted h t) b) (passed : not b ≡ false) {levels marks : List ℕ} {d : Bool}
-    (room : Tells (Room (h .items) levels marks) d) (fits : not d ≡ false) {from : List ℕ} (size : FullSize from) where
-  enough : h .items ≤ length from
-  enough = omega (arith, told-yes table passed .accepted .items, size .size)
+    (room : Tells (Room (h .items) levels marks) d) (fits : not d ≡ false) {n : ℕ} (size : n ≡ mostItems) where
+  enough : h .items ≤ n
+  enough = omega (arith, told-yes table passed .accepted .items)
 
-  pub copy-levels : CopyRoom (h .items) from levels
-  copy-levels = record { source = enough; target = told-yes room fits .forLevels }
+  pub copy-levels : (h .items ≤ n) × (h .items ≤ length levels)
+  copy-levels = (enough, told-yes room fits .forLevels)
 
-  pub copy-marks : CopyRoom (h .items) from marks
-  copy-marks = record { source = enough; target = told-yes room fits .forMarks }
+  pub copy-marks : (h .items ≤ n) × (h .items ≤ length marks)
+  copy-marks = (enough, told-yes room fits .forMarks)
 
 -- What labelling comes to, by the answer.
 outcome-wanted : {h : Head} {t : List ℕ} {start mid : Buffers} → LabelSays h t start Outcome.Done mid → WantedEverywhere h t start mid

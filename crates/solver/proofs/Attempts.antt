@@ -1,7 +1,7 @@
 -- One attempt at lowering an item: it takes the labels one item further in each part in which the floors hold, and leaves them as they were in
 -- each in which they fail.
 -- Assumes nothing.
-use mathlib.Core.Path.{_≡_, _∙_, ap, ap₂}
+use mathlib.Core.Path.{_≡_, _∙_, ap, ap₂, subst}
 use mathlib.Core.Bool.{true, false, true≢false, false≢true}
 use mathlib.Core.List.{List}
 use Prim.Native.Nat.{ℕ, suc, _+_, _≤_, _<_}
@@ -28,15 +28,15 @@ use Rattle.solver.proofs.OneItem.{label-placed}
 use Rattle.solver.proofs.Sweep.{SameSize, size-trans, room-kept, usable-inside}
 
 -- The labels are saved, one of them is put, and they are settled.
-placed-size : (i : ℕ) (x : Class) (b : Buffers) → SameSize b (placedAt i x b)
-placed-size i x b = record { levels = length-set (b .levels) i (x .level); marks = length-set (b .marks) i (x .marks) }
+placed-size : (i v : ℕ) (b : Buffers) → SameSize b (placedAt i v b)
+placed-size i v b = record { levels = length-set (b .levels) i v; marks = length-set (b .marks) i 0 }
 
-module _ {h : Head} {t : List ℕ} {i : ℕ} {before old : Buffers} (ready : Attemptable h t i before old) (x : Class) where
-  attempt-size : {after : Buffers} → SameSize (placedAt i x before) after → SameSize before after
-  attempt-size s = size-trans (placed-size i x before) s
+module _ {h : Head} {t : List ℕ} {i : ℕ} {before old : Buffers} (ready : Attemptable h t i before old) (v : ℕ) where
+  attempt-size : {after : Buffers} → SameSize (placedAt i v before) after → SameSize before after
+  attempt-size s = size-trans (placed-size i v before) s
 
   pub attempt-made : {after : Buffers} {l m : List ℕ} {w : Class} → Copied (h .items) (before .levels) (old .levels) l → Copied (h .items) (before .marks) (old .marks) m
-      → Settles h t (placedAt i x before) after w → SameSize (placedAt i x before) after → Attempts h t i x before after (held l m) w
+      → Settles h t (placedAt i v before) after w → SameSize (placedAt i v before) after → Attempts h t i v before after (held l m) w
   attempt-made levels marks settled size = record {
     saved = record { label = λ j s. ap₂ classOf (levels .front j s) (marks .front j s) };
     settled = settled;
@@ -63,73 +63,69 @@ at-least {f = f} {i = i} {v = v} x less = pick (decLt (f i) v)
     pick (yes l) = absurd (less .never f (x .below .labelling) (λ j s. omega arith) l)
     pick (no l) = omega arith
 
-module _ {h : Head} {t : List ℕ} {i : ℕ} {before : Buffers} (usable : ItemUsable h t i before) {x w : Class} {l₁ k₁ : List ℕ} {old : Buffers}
-    (tried : Attempts h t i x before (held l₁ k₁) old w) where
+module _ {h : Head} {t : List ℕ} {i : ℕ} {before : Buffers} (usable : ItemUsable h t i before) {v : ℕ} {w : Class} {l₁ k₁ : List ℕ} {old : Buffers}
+    (tried : Attempts h t i v before (held l₁ k₁) old w) where
   inside : (p : ℕ) → Inside (bookIn p h t)
   inside = usable-inside (usable .usable)
 
-  placed : (p v : ℕ) → part p x ≡ v → Placed (h .items) (labelsAt p before) i v (labelsAt p (placedAt i x before))
-  placed p v e = record {
-    here = ap (part p) (here .here) ∙ e;
-    other = λ j s ne. ap (part p) (here .other j s ne);
-  }
+  placed : (p : ℕ) → Placed (h .items) (labelsAt p before) i (part p (classOf v 0)) (labelsAt p (placedAt i v before))
+  placed p = record { here = ap (part p) (here .here); other = λ j s ne. ap (part p) (here .other j s ne) }
     where
-      here : Placed (h .items) (labelsOf before) i x (labelsOf (placedAt i x before))
+      here : Placed (h .items) (labelsOf before) i (classOf v 0) (labelsOf (placedAt i v before))
       here =
-          label-placed (before .levels) (before .marks) i x (omega (arith, usable .item, usable .usable .room .forLevels))
+          label-placed (before .levels) (before .marks) i (classOf v 0) (omega (arith, usable .item, usable .usable .room .forLevels))
           (omega (arith, usable .item, usable .usable .room .forMarks)) (h .items)
 
-  greatest : (p : ℕ) → p < partCount → Greatest (valuesIn p) (bookIn p h t) (labelsAt p (placedAt i x before)) (labelsAt p (held l₁ k₁))
+  greatest : (p : ℕ) → p < partCount → Greatest (valuesIn p) (bookIn p h t) (labelsAt p (placedAt i v before)) (labelsAt p (held l₁ k₁))
   greatest = tried .settled .greatest
 
-  module _ (v : ℕ) (e : x ≡ classOf v 0) where
-    cleared : (p : ℕ) → Placed (h .items) (labelsAt (suc p) before) i 0 (labelsAt (suc p) (placedAt i x before))
-    unfolding part
-    cleared p = placed (suc p) 0 (ap (λ (c : Class). bit p (c .marks)) e ∙ bit-of-zero p)
+  cleared : (p : ℕ) → Placed (h .items) (labelsAt (suc p) before) i 0 (labelsAt (suc p) (placedAt i v before))
+  unfolding part
+  cleared p = subst (λ k. Placed (h .items) (labelsAt (suc p) before) i k (labelsAt (suc p) (placedAt i v before))) (bit-of-zero p) (placed (suc p))
 
-    levelled : Placed (h .items) (labelsAt 0 before) i v (labelsAt 0 (placedAt i x before))
-    unfolding part
-    levelled = placed 0 v (ap (λ (c : Class). c .level) e)
+  levelled : Placed (h .items) (labelsAt 0 before) i v (labelsAt 0 (placedAt i v before))
+  unfolding part
+  levelled = placed 0
 
-    -- A labelling is left in the level: the marks that can go are gone, and the others are put back.
-    module _ {k₂ : List ℕ} (chosen : Chosen (h .items) (w .marks) (old .marks) k₁ k₂) where
-      saved-bit : (p j : ℕ) → j < h .items → bit p (getD (old .marks) j 0) ≡ bit p (getD (before .marks) j 0)
-      saved-bit p j s = ap (λ (c : Class). bit p (c .marks)) (tried .saved .label j s)
+  -- A labelling is left in the level: the marks that can go are gone, and the others are put back.
+  module _ {k₂ : List ℕ} (chosen : Chosen (h .items) (w .marks) (old .marks) k₁ k₂) where
+    saved-bit : (p j : ℕ) → j < h .items → bit p (getD (old .marks) j 0) ≡ bit p (getD (before .marks) j 0)
+    saved-bit p j s = ap (λ (c : Class). bit p (c .marks)) (tried .saved .label j s)
 
-      mark-tried : (p : ℕ) → p < 64 → Dec (bit p (w .marks) ≡ 0) → LowersPart (suc p) h t i (suc i) before (held l₁ k₂)
-      unfolding part topOf
-      mark-tried p s (yes z) u y =
-          lowered-same (numbers 1) (bookIn (suc p) h t) (inside (suc p)) (usable .item)
-          (λ j q. omega (arith, chosen .bits j q p s, bit-small p (getD k₁ j 0), bit-small p (getD (old .marks) j 0)))
-          (mark-further (bookIn (suc p) h t) (inside (suc p)) u y (usable .item) (cleared p) (greatest (suc p) (omega arith))
-          (tried .settled .floors .held (suc p) (omega arith) z))
-      mark-tried p s (no ne) u y =
-          lowered-same (numbers 1) (bookIn (suc p) h t) (inside (suc p)) (usable .item)
-          (λ j q.
-          omega (arith, chosen .bits j q p s, bit-small p (w .marks), bit-small p (getD k₁ j 0), bit-small p (getD (old .marks) j 0), saved-bit p j q))
-          (mark-stays (bookIn (suc p) h t) (inside (suc p)) u y (usable .item) (cleared p) (greatest (suc p) (omega arith))
-          (λ z. ne (tried .settled .floors .zero (suc p) (omega arith) z)))
-
-      pub level-left : w .level ≡ 0 → TriesLevel h t i v before (held l₁ k₂) true
-      unfolding part topOf
-      level-left none-short = record {
-        marks = λ z p s. mark-tried p s (ℕ-discrete (bit p (w .marks)) 0);
-        level = λ z less u y.
-            lowered-step topLevel (bookIn 0 h t) (inside 0) u y (usable .item) levelled (at-least y less) (greatest 0 (omega arith))
-            (tried .settled .floors .held 0 (omega arith) none-short) less;
-        stays = λ z. absurd (true≢false z);
-        failed = λ z. absurd (true≢false z);
-      }
-
-    -- None is left, and the labels are put back.
-    pub level-failed : (w .level ≡ 0 → ⊥) → {l₂ k₂ : List ℕ} → Copied (h .items) (old .levels) l₁ l₂ → Copied (h .items) (old .marks) k₁ k₂
-        → TriesLevel h t i v before (held l₂ k₂) false
+    mark-tried : (p : ℕ) → p < 64 → Dec (bit p (w .marks) ≡ 0) → LowersPart (suc p) h t i (suc i) before (held l₁ k₂)
     unfolding part topOf
-    level-failed short levels marks = record {
-      marks = λ z. absurd (false≢true z);
-      level = λ z. absurd (false≢true z);
-      stays = λ z. record { label = λ j s. ap₂ classOf (levels .front j s) (marks .front j s) ∙ tried .saved .label j s };
-      failed = λ z.
-          attempt-fails topLevel (bookIn 0 h t) (inside 0) (λ j. topLevel) levelled (greatest 0 (omega arith))
-          (λ g. short (tried .settled .floors .zero 0 (omega arith) g));
+    mark-tried p s (yes z) u y =
+        lowered-same (numbers 1) (bookIn (suc p) h t) (inside (suc p)) (usable .item)
+        (λ j q. omega (arith, chosen .bits j q p s, bit-small p (getD k₁ j 0), bit-small p (getD (old .marks) j 0)))
+        (mark-further (bookIn (suc p) h t) (inside (suc p)) u y (usable .item) (cleared p) (greatest (suc p) (omega arith))
+        (tried .settled .floors .held (suc p) (omega arith) z))
+    mark-tried p s (no ne) u y =
+        lowered-same (numbers 1) (bookIn (suc p) h t) (inside (suc p)) (usable .item)
+        (λ j q.
+        omega (arith, chosen .bits j q p s, bit-small p (w .marks), bit-small p (getD k₁ j 0), bit-small p (getD (old .marks) j 0), saved-bit p j q))
+        (mark-stays (bookIn (suc p) h t) (inside (suc p)) u y (usable .item) (cleared p) (greatest (suc p) (omega arith))
+        (λ z. ne (tried .settled .floors .zero (suc p) (omega arith) z)))
+
+    pub level-left : w .level ≡ 0 → TriesLevel h t i v before (held l₁ k₂) true
+    unfolding part topOf
+    level-left none-short = record {
+      marks = λ z p s. mark-tried p s (ℕ-discrete (bit p (w .marks)) 0);
+      level = λ z less u y.
+          lowered-step topLevel (bookIn 0 h t) (inside 0) u y (usable .item) levelled (at-least y less) (greatest 0 (omega arith))
+          (tried .settled .floors .held 0 (omega arith) none-short) less;
+      stays = λ z. absurd (true≢false z);
+      failed = λ z. absurd (true≢false z);
     }
+
+  -- None is left, and the labels are put back.
+  pub level-failed : (w .level ≡ 0 → ⊥) → {l₂ k₂ : List ℕ} → Copied (h .items) (old .levels) l₁ l₂ → Copied (h .items) (old .marks) k₁ k₂
+      → TriesLevel h t i v before (held l₂ k₂) false
+  unfolding part topOf
+  level-failed short levels marks = record {
+    marks = λ z. absurd (false≢true z);
+    level = λ z. absurd (false≢true z);
+    stays = λ z. record { label = λ j s. ap₂ classOf (levels .front j s) (marks .front j s) ∙ tried .saved .label j s };
+    failed = λ z.
+        attempt-fails topLevel (bookIn 0 h t) (inside 0) (λ j. topLevel) levelled (greatest 0 (omega arith))
+        (λ g. short (tried .settled .floors .zero 0 (omega arith) g));
+  }

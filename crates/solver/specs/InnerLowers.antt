@@ -31,9 +31,9 @@ pub record Chosen (n w : ℕ) (old before after : List ℕ) : Type 0 where
   pub bits : (i : ℕ) → i < n → (k : ℕ) → k < 64
       → bit k (getD after i 0) ≡ max (min (bit k (getD before i 0)) (1 - bit k w)) (min (bit k (getD old i 0)) (bit k w))
 
--- The labels with x at item i.
-abbrev pub placedAt : ℕ → Class → Buffers → Buffers
-placedAt i x b = held (set (b .levels) i (x .level)) (set (b .marks) i (x .marks))
+-- The labels with level v and no marks at item i.
+abbrev pub placedAt : ℕ → ℕ → Buffers → Buffers
+placedAt i v b = held (set (b .levels) i v) (set (b .marks) i 0)
 
 -- What lowering item i asks.
 pub record ItemUsable (h : Head) (t : List ℕ) (i : ℕ) (b : Buffers) : Type 0 where
@@ -49,10 +49,10 @@ pub record Attemptable (h : Head) (t : List ℕ) (i : ℕ) (b old : Buffers) : T
 pub record LabelsStay (h : Head) (before after : Buffers) : Type 0 where
   pub label : (j : ℕ) → j < h .items → labelsOf after j ≡ labelsOf before j
 
--- The labels as they were are saved, and with x at item i they are settled. There is still room for both.
-pub record Attempts (h : Head) (t : List ℕ) (i : ℕ) (x : Class) (before after old : Buffers) (w : Class) : Type 0 where
+-- The labels as they were are saved, and with level v and no marks at item i they are settled. There is still room for both.
+pub record Attempts (h : Head) (t : List ℕ) (i v : ℕ) (before after old : Buffers) (w : Class) : Type 0 where
   pub saved : LabelsStay h before old
-  pub settled : Settles h t (placedAt i x before) after w
+  pub settled : Settles h t (placedAt i v before) after w
   pub room : Room (h .items) (after .levels) (after .marks)
   pub spare : Room (h .items) (old .levels) (old .marks)
 

@@ -34,24 +34,24 @@ fn put_back(old: &[u64], w: u64, marks: &mut [u64], n: usize)
     }
 }
 
-// Saves the labels, puts a class at item i and settles. Answers the parts in which no labelling is left.
+// Saves the labels, puts level v and no marks at item i, and settles. Answers the parts in which no labelling is left.
 fn attempt(
     rules: &[u64],
     head: Head,
     i: usize,
-    to: Class,
+    v: u64,
     levels: &mut [u64],
     marks: &mut [u64],
     old_levels: &mut [u64],
     old_marks: &mut [u64],
 ) -> Class
     requires { ⌜ Attemptable head (now rules) i (held (now levels) (now marks)) (held (now «old_levels») (now «old_marks»)) ⌝ }
-    ensures { λ w. ⌜ Attempts head (now (rules .entry)) i to (held (now (levels .entry)) (now (marks .entry))) (held (now (levels .exit)) (now (marks .exit))) (held (now («old_levels» .exit)) (now («old_marks» .exit))) w ⌝ }
+    ensures { λ w. ⌜ Attempts head (now (rules .entry)) i v (held (now (levels .entry)) (now (marks .entry))) (held (now (levels .exit)) (now (marks .exit))) (held (now («old_levels» .exit)) (now («old_marks» .exit))) w ⌝ }
 {
     copy(levels, old_levels, head.items);
     copy(marks, old_marks, head.items);
-    levels[i] = to.level;
-    marks[i] = to.marks;
+    levels[i] = v;
+    marks[i] = 0;
     settle(rules, head, levels, marks)
 }
 
@@ -70,12 +70,11 @@ fn try_level(
 {
     let mut old_levels = [0u64; MOST_ITEMS];
     let mut old_marks = [0u64; MOST_ITEMS];
-    let to = Class::new(v, 0);
     let w = attempt(
         rules,
         head,
         i,
-        to,
+        v,
         levels,
         marks,
         &mut old_levels,

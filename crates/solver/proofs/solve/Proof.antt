@@ -1,5 +1,6 @@
 -- `solve` meets its contract. Assumes nothing.
 use Rattle.solver.proofs.Answers.{start-bounded, says-table, says-room, says-without, says-labelled, copy-levels, copy-marks}
+use native.Mathlib.Omega.{arith}
 use borrow.Author.Needs.{needs}
 use Rattle.solver.proofs.solve.Statement.{statement}
 use Rattle.solver.proofs.solve.Tie as tie
@@ -50,13 +51,23 @@ slice-aggregate-copy : tie.Need-slice-aggregate-copy
 slice-aggregate-copy c = search needs
 
 copy-requires : tie.Need-copy-requires
-copy-requires c κs = let after = c .before .before .before .before .before .before in let tested = after .before .before .before in copy-levels (tested .before .before .before .before .before .rules-ok .ensures) (tested .before .before .before .before .if1 .left) (tested .before .has-room .ensures) (tested .if2 .left) (record { size = after .label .kept .1 .1 .0 })
+copy-requires c κs =
+    let after = c .before .before .before .before .before .before in
+    let tested = after .before .before .before in
+    let asked = tested .before .before .before .before in
+    let room = copy-levels (asked .before .rules-ok .ensures) (asked .if1 .left) (tested .before .has-room .ensures) (tested .if2 .left) (after .label .kept .1 .1 .0) in
+    omega (arith, room)
 
 slice-aggregate-copy-2 : tie.Need-slice-aggregate-copy-2
 slice-aggregate-copy-2 c = search needs
 
 copy-requires-2 : tie.Need-copy-requires-2
-copy-requires-2 c κs = let after = c .before .before .before .before .before .before .before .before .before .before .before in let tested = after .before .before .before in copy-marks (tested .before .before .before .before .before .rules-ok .ensures) (tested .before .before .before .before .if1 .left) (tested .before .has-room .ensures) (tested .if2 .left) (record { size = after .label .kept .1 .1 .1 .0 })
+copy-requires-2 c κs =
+    let after = c .before .before .before .before .before .before .before .before .before .before .before in
+    let tested = after .before .before .before in
+    let asked = tested .before .before .before .before in
+    let room = copy-marks (asked .before .rules-ok .ensures) (asked .if1 .left) (tested .before .has-room .ensures) (tested .if2 .left) (after .label .kept .1 .1 .1 .0) in
+    omega (arith, room)
 
 same-length-3 : tie.Need-same-length-3
 same-length-3 c = search needs

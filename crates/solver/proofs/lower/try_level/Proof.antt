@@ -4,9 +4,6 @@ use borrow.Author.Needs.{needs}
 use Rattle.solver.proofs.lower.try_level.Statement.{statement}
 use Rattle.solver.proofs.lower.try_level.Tie as tie
 
-new-requires : tie.Need-new-requires
-new-requires c κs = search needs
-
 slice-aggregate-attempt : tie.Need-slice-aggregate-attempt
 slice-aggregate-attempt c = search needs
 
@@ -53,4 +50,4 @@ returns-2 : tie.Need-returns-2
 returns-2 c = search (level-failed, needs)
 
 pub try-level-spec : {M : Type 1} → statement M
-try-level-spec = tie.close (tie.spec new-requires slice-aggregate-attempt slice-aggregate-attempt-2 attempt-requires slice-aggregate-put-back put-back-requires same-length same-length-2 returns slice-aggregate-copy copy-requires slice-aggregate-copy-2 copy-requires-2 same-length-3 same-length-4 returns-2)
+try-level-spec = tie.close (tie.spec slice-aggregate-attempt slice-aggregate-attempt-2 attempt-requires slice-aggregate-put-back put-back-requires same-length same-length-2 returns slice-aggregate-copy copy-requires slice-aggregate-copy-2 copy-requires-2 same-length-3 same-length-4 returns-2)
