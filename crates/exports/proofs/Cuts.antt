@@ -82,19 +82,6 @@ module _ (columns : ℕ) where
   pub ahead : (last : Bool) (a b : List ℕ) → Lastly last b → Ahead a b (taken last columns a)
   ahead last a b z = ahead-in (length a) last a b (omega arith) z
 
-  -- What is taken from a piece, and then from what follows it, is what is taken from both. A bad record of the piece stops both.
-  pub cut-good : (a b : List ℕ) → taken true columns (a ++ b) ≡
-      past (taken false columns a .rows) (taken false columns a .used) (taken true columns (drop (taken false columns a .used) a ++ b))
-  cut-good a b = ahead false a b (λ e. absurd (false≢true e)) .on
-
-  pub cut-faulty : (a b : List ℕ) → taken false columns a .faulty ≡ true → taken true columns (a ++ b) ≡ taken false columns a
-  cut-faulty a b = ahead false a b (λ e. absurd (false≢true e)) .faulty
-
-  -- The same of a text behind which there is nothing.
-  pub cut-last : (a : List ℕ) → taken true columns a ≡
-      past (taken true columns a .rows) (taken true columns a .used) (taken true columns (drop (taken true columns a .used) a))
-  cut-last a = rw (append-nil a, append-nil (drop (taken true columns a .used) a)) at (ahead true a [] (λ e. refl) .on)
-
 -- What is written of what is taken, and what is said, from the record of this number on.
 outcome : List Bool → ℕ → Taken → Outcome
 outcome kept number t = record {

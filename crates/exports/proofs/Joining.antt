@@ -4,9 +4,9 @@
 use mathlib.Core.Path.{_≡_, refl, sym, ap, _∙_}
 use mathlib.Core.Bool.{Bool, true, false, cond}
 use mathlib.Core.List.{List, [], _∷_, _++_, append-assoc, append-nil}
-use Prim.Native.Nat.{ℕ, _≤_, _<_}
+use Prim.Native.Nat.{ℕ, _<_}
 use native.Mathlib.Omega.{arith}
-use lib.ListN.{length, getD, length-append}
+use lib.ListN.{length, getD}
 use Rattle.exports.specs.Text.{keptOf, commaed, withCommas, recordLine, recordLines}
 use Rattle.scans.specs.Ascii.{comma}
 
@@ -20,10 +20,6 @@ pub closed-none : closedEach [] ≡ []
 unfolding closedEach
 closed-none = refl
 
-pub commas-none : withCommas [] ≡ []
-unfolding withCommas
-commas-none = refl
-
 pub kept-none : (ks : List Bool) → keptOf ks [] ≡ []
 unfolding keptOf
 kept-none [] = refl
@@ -32,17 +28,6 @@ kept-none (k ∷ ks) = refl
 pub lines-none : (kept : List Bool) → recordLines kept [] ≡ []
 unfolding recordLines
 lines-none kept = refl
-
--- Whether there is a field shows in whether there is a byte.
-pub closed-some : (gs : List (List ℕ)) → 0 < length (closedEach gs) → 0 < length gs
-unfolding closedEach
-closed-some [] h = absurd (omega arith)
-closed-some (g ∷ gs) h = omega arith
-
-pub closed-empty : (gs : List (List ℕ)) → length (closedEach gs) ≤ 0 → gs ≡ []
-unfolding closedEach
-closed-empty [] h = refl
-closed-empty (g ∷ gs) h = absurd (omega (arith, length-append g (comma ∷ closedEach gs)))
 
 -- One more field.
 pub closed-one-more : (gs : List (List ℕ)) (f : List ℕ) → closedEach (gs ++ f ∷ []) ≡ closedEach gs ++ f ++ comma ∷ []

@@ -1,7 +1,7 @@
 -- Bytes that come behind a text: what ends in the text stays as it is, and what does not is at least as long as the text. It rests on induction
 -- over the bytes and over the fields.
 -- Assumes nothing.
-use mathlib.Core.Path.{_≡_, refl, ap, _∙_, subst}
+use mathlib.Core.Path.{_≡_, refl, ap, _∙_}
 use mathlib.Core.Bool.{Bool, true, false, cond}
 use mathlib.Core.List.{List, [], _∷_, _++_}
 use Prim.Native.Nat.{ℕ, zero, suc, _+_, _≤_}
@@ -105,20 +105,6 @@ scan-goes quoted (b ∷ a) d =
     both (Goes (suc (length a))) (eqb b quote) _ _ _ _ (further closed a d (scan-goes closed a d)) (further quoted a d (scan-goes quoted a d))
 scan-goes closed (b ∷ a) d =
     both (Goes (suc (length a))) (eqb b quote) _ _ _ _ (further quoted a d (scan-goes quoted a d)) (behind-goes b a d)
-
--- A field that a comma or a CRLF ends stays as it is, and so does what is no field.
-module _ (w : Where) (a b : List ℕ) where
-  goes-by : {f : Field} → scan w a ≡ f → Goes (length a) f (scan w (a ++ b))
-  goes-by e = subst (λ (f : Field). Goes (length a) f (scan w (a ++ b))) e (scan-goes w a b)
-
-  pub comma-stays : {n : ℕ} → scan w a ≡ Field.Comma n → scan w (a ++ b) ≡ Field.Comma n
-  comma-stays e = goes-by e
-
-  pub line-stays : {n : ℕ} → scan w a ≡ Field.Line n → scan w (a ++ b) ≡ Field.Line n
-  line-stays e = goes-by e
-
-  pub bad-stays : scan w a ≡ Field.Bad → scan w (a ++ b) ≡ Field.Bad
-  bad-stays e = goes-by e
 
 -- The same of rows.
 abbrev RowReaches : ℕ → Row → Type 0
