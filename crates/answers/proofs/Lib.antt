@@ -1,7 +1,6 @@
--- Why the answer is right: the puts that make a refusal, tables that are equal up to their counts, what each function answers, and that there is
--- only one answer; and that every place is printed whole.
-pub mod Putting
-pub mod SameBooks
+-- Why the answer is right: what assigning says of a text, what each function answers, that every answer is short and its places are printed whole, and that
+-- there is only one answer.
+pub mod Told
 pub mod Says
 pub mod Short
 pub mod Unique

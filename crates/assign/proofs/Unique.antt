@@ -29,6 +29,9 @@ assigned-back : (x : Assigned) → assignedOf (saidAssigned x) ≡ x
 assigned-back (Assigned.Labelled h) = refl
 assigned-back (Assigned.Refused r) = ap Assigned.Refused (refusal-back r)
 
+pub assigned-told : {x y : Assigned} → saidAssigned x ≡ saidAssigned y → x ≡ y
+assigned-told e = said-injective saidAssigned assignedOf assigned-back e
+
 -- Of one book one thing is said.
 module _ {h : Head} {t w : List ℕ} {before : Lent} where
   pub book-unique : {x y : Said} {a b : Lent} → BookSays h t w before x a → BookSays h t w before y b → (x ≡ y) × (a ≡ b)
@@ -59,4 +62,4 @@ says-unique {l} {before} (read e x) (read {s = s} {after = after} f y) =
 
 pub assign-unique : {l : List ℕ} {before : Lent} {x y : Assigned} {a b : Lent} → AssignSays l before (saidAssigned x) a → AssignSays l before (saidAssigned y) b
     → (x ≡ y) × (a ≡ b)
-assign-unique p q = (said-injective saidAssigned assignedOf assigned-back (says-unique p q .0), says-unique p q .1)
+assign-unique p q = (assigned-told (says-unique p q .0), says-unique p q .1)

@@ -12,6 +12,7 @@ use keys::Key;
 use scans::DIGIT_0;
 use scans::SLASH;
 use tokens::BEHIND_LEVEL;
+use tokens::COUNT_DIGITS;
 use tokens::LETTER_0;
 use tokens::MARK_DIGITS;
 ghost use mathlib.Core.Path.{_≡_};
@@ -118,7 +119,7 @@ fn digit_byte(d: u64) -> u8
     }
 }
 
-// How many decimal digits a number has with no leading zero, at most 5.
+// How many decimal digits a number has with no leading zero, at most those of a count.
 fn decimal_len(n: u64) -> usize
     ensures { λ r. ⌜ r ≡ decimalLen n ⌝ }
 {
@@ -134,5 +135,5 @@ fn decimal_len(n: u64) -> usize
     if n < 10000 {
         return 4;
     }
-    5
+    COUNT_DIGITS
 }

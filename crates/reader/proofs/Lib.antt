@@ -8,6 +8,7 @@ pub mod Entries
 pub mod Numbers
 pub mod ReadRight
 pub mod Places
+pub mod Adding
 pub mod Turns
 pub mod Whole
 pub mod Answers

@@ -30,7 +30,7 @@ use Rattle.items.proofs.Found as found
 use Rattle.items.proofs.Lookup.{find-told}
 use Rattle.reader.specs.Names.{isItem, itemNumber, everyItem, numbersOf, rising}
 use Rattle.reader.specs.Lines.{rightItemAt}
-use Rattle.reader.specs.Inner.{LookReady, LooksUp}
+use Rattle.reader.specs.InnerAdding.{LookReady, LooksUp}
 
 -- What is not At is no item.
 pub not-item : (x : Found) → OneOf (1 ∷ 2 ∷ []) (enum.Declared.tagOf found.the-type x) → isItem x ≡ false

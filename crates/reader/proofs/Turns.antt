@@ -1,45 +1,39 @@
--- What one line gives, one law for each answer that the code can give. They rest on the laws of lines, of look-ups and of what a put leaves in
--- a buffer.
+-- What one line gives, one law for each answer that the code can give. They rest on the laws of lines and of what is added to the tables.
 -- Assumes nothing.
-use mathlib.Core.Path.{_≡_, refl, sym, ap, _∙_}
-use mathlib.Core.Bool.{Bool, true, false, not}
+use mathlib.Core.Path.{_≡_, refl, sym, ap₂, _∙_}
+use mathlib.Core.Bool.{Bool, true, false, cond, _&&_, not}
 use mathlib.Core.List.{List, [], _∷_}
 use mathlib.Core.Logic.{inl, inr}
-use Prim.Native.Nat.{ℕ, _+_, _-_, _*_, _^_, _≤_, _<_}
+use Prim.Native.Nat.{ℕ, _+_, _-_, _*_, _≤_, _<_}
 use native.Mathlib.Nat.{add-assoc}
 use native.Mathlib.Omega.{arith}
-use lib.ListN.{length, take, drop, replicate, drop-of-length-le, length-drop}
+use lib.Dec.{ltb, leb}
+use lib.ListN.{length, take, drop, drop-of-length-le, length-drop}
 use lib.Seq.{drop-drop, length-take-le}
 use mir.Syntax.{w64}
 use mir.Val.{Fits}
 use types.Run.{OneOf}
 use denote.Enum as enum
-use borrow.Author.Tests.{eq-eqb, ne-eqb, lt-ltb, le-ltb, le-leb, lt-leb, not-true, not-false}
-use Rattle.laws.specs.Over.{over}
+use borrow.Author.Tests.{eq-eqb, ne-eqb, ltb-true, not-true, not-false}
+use Rattle.laws.proofs.Bools.{and-left, true-not-false}
 use Rattle.refusals.specs.Sizes.{mostText, mostItems, mostRules, mostLeft}
 use Rattle.refusals.specs.declared.Fault.{Fault}
-use Rattle.items.specs.Names.{nameRoom}
 use Rattle.items.specs.Lookup.{findIn}
-use Rattle.items.specs.declared.Found.{Found}
-use Rattle.items.proofs.Found as found
-use Rattle.rules.specs.Table.{ruleWords, RulePut}
-use Rattle.rules.specs.declared.Rule.{Rule}
-use Rattle.rules.proofs.Put.{put-told}
 use Rattle.keys.specs.Keys.{keyNumber, nextAllowed}
 use Rattle.keys.specs.declared.Key.{Key}
-use Rattle.puts.specs.Writing.{Put}
-use Rattle.puts.proofs.Placed.{put-buffer}
+use Rattle.keys.proofs.Key as key
 use Rattle.lines.specs.Lines.{lineAt, lineLen}
 use Rattle.lines.specs.declared.Line.{Line}
 use Rattle.lines.specs.declared.ReadLine.{ReadLine}
 use Rattle.lines.proofs.Told.{LineHere, line-here}
 use Rattle.reader.specs.declared.ReadBook.{ReadBook}
+use Rattle.reader.specs.declared.line.Added.{Added}
 use Rattle.reader.specs.declared.line.Counts.{Counts}
 use Rattle.reader.specs.declared.line.Stepped.{Stepped}
-use Rattle.reader.specs.Names.{everyItem, numbersOf, rising}
-use Rattle.reader.specs.Lines.{State, Turn, refusedAt, headOf, counted, isAbsent, itemStep, ruleKind, leftPlaces, rightItemAt, allFound, ruleStep, endStep, keyStep, lineStep, step}
-use Rattle.reader.specs.Inner.{stateOf, turnOf, Ready, LineReady, ItemReady, RuleReady, stopsAt, ItemStepped, EndStepped, LookReady, LooksUp}
-use Rattle.reader.proofs.LookUps.{not-item}
+use Rattle.reader.specs.Names.{rising}
+use Rattle.reader.specs.Lines.{State, Turn, on, refusedAt, refuse, headOf, counted, itemName, isAbsent, withItem, itemStep, ruleKind, leftPlaces, leftNumbers, withRule, allFound, ruleStep, endStep, keyStep, lineStep, step}
+use Rattle.reader.specs.InnerAdding.{NameReady, itemAdded, ItemAdded, NamesReady, RuleAdded}
+use Rattle.reader.specs.InnerLines.{stateOf, turnOf, Ready, LineReady, Counting, ItemReady, RuleReady, stopsAt, wentOn, ItemStepped, RuleStepped, EndStepped}
 
 -- A key's number is at most 5.
 pub key-few : (k : Key) → keyNumber k ≤ 5
@@ -71,6 +65,9 @@ place-of {text} {at} {x} r =
 pub line-short : {text : List ℕ} {at : ℕ} {x : Line} {c : Counts} → LineReady text at x c → lineLen x ≤ mostText
 line-short r = place-of r .short
 
+pub line-counts : {text : List ℕ} {at : ℕ} {x : Line} {c : Counts} → LineReady text at x c → Counting c x
+line-counts r = record { lines = r .lines; short = place-of r .short }
+
 pub line-inside : {text : List ℕ} {at : ℕ} {x : Line} {c : Counts} → LineReady text at x c → at ≤ length text
 line-inside r = omega (arith, place-of r .end)
 
@@ -95,164 +92,156 @@ module _ (text : List ℕ) (at : ℕ) {x : Line} {c : Counts} where
           rw (eq-eqb (x .value .count) (c .lines) f, length-drop at text, ← g, eq-eqb (length text - at) k h);
     }
 
+-- A line that adds to a table: it moves on where its addition was made, and stops with the fault else.
+abbrev turnBy : State → State → ℕ → Added → Turn
+turnBy st next k Added.Yes = on next k
+turnBy st next k (Added.No f) = refuse st f
+
+turn-cond : (st next : State) (k : ℕ) (b : Bool) (x : Added) (f : Fault) → cond b (turnBy st next k x) (refuse st f) ≡ turnBy st next k (cond b x (Added.No f))
+turn-cond st next k true x f = refl
+turn-cond st next k false x f = refl
+
 -- An item's line.
-pub not-absent : (x : Found) → OneOf (0 ∷ 2 ∷ []) (enum.Declared.tagOf found.the-type x) → isAbsent x ≡ false
-not-absent Found.Absent (inl e) = absurd (omega arith)
-not-absent Found.Absent (inr e) = absurd (omega arith)
-not-absent (Found.At i) h = refl
-not-absent (Found.Refused r) h = refl
+item-turn : (st : State) (l : List ℕ) (x : Line) → itemStep st l x ≡ turnBy st (withItem st l x) (lineLen x) (itemAdded (st .names) (st .counts .items) (itemName l x))
+unfolding itemStep
+item-turn st l x =
+    rw (turn-cond st (withItem st l x) (lineLen x) (isAbsent (findIn (st .names) (st .counts .items) (itemName l x))) Added.Yes Fault.NameTwice)
+    (turn-cond st (withItem st l x) (lineLen x) (ltb (st .counts .items) mostItems) _ Fault.TooMany)
 
-module _ (text : List ℕ) (at : ℕ) {x : Line} {c : Counts} {names : List ℕ} where
-  pub item-full : {r : Stepped} → r ≡ stopsAt Fault.TooMany (c .lines + 1) → mostItems ≤ c .items → ItemStepped c names (drop at text) x r names
-  unfolding itemStep
-  item-full e h = record { turn = λ words. rw (e, le-ltb (c .items) mostItems h) }
+module _ {text : List ℕ} {at : ℕ} {x : Line} {c : Counts} {names : List ℕ} (ready : ItemReady text at x c names) where
+  place : Place text at x
+  place = place-of (ready .line)
 
-  module _ (ready : ItemReady text at x c names) where
-    pub item-from : length text < 2 ^ 64 → Fits w64 (at + x .from)
-    item-from h = let p = place-of (ready .line) in record { fits = omega (arith, p .end, p .line .left) }
+  pub item-from : Fits w64 (at + x .from)
+  item-from = record { fits = omega (arith, place .end, place .line .left, ready .line .text) }
 
-    pub item-end : length text < 2 ^ 64 → Fits w64 (at + x .from + x .value .left)
-    item-end h = let p = place-of (ready .line) in record { fits = omega (arith, p .end, p .line .left) }
+  pub item-end : Fits w64 (at + x .from + x .value .left)
+  item-end = record { fits = omega (arith, place .end, place .line .left, ready .line .text) }
 
-    pub item-within : at + x .from + x .value .left ≤ length text
-    item-within = let p = place-of (ready .line) in omega (arith, p .end, p .line .left)
+  pub item-within : at + x .from + x .value .left ≤ length text
+  item-within = omega (arith, place .end, place .line .left)
 
-    -- The part that is lent is the name.
-    part : take (at + x .from + x .value .left - (at + x .from)) (drop (at + x .from) text) ≡ take (x .value .left) (drop (x .from) (drop at text))
-    part =
-        let same : at + x .from + x .value .left - (at + x .from) ≡ x .value .left = omega arith in
-        rw (same, drop-drop (x .from) at text)
+  -- The part that is lent is the name.
+  part : take (at + x .from + x .value .left - (at + x .from)) (drop (at + x .from) text) ≡ itemName (drop at text) x
+  part =
+      let same : at + x .from + x .value .left - (at + x .from) ≡ x .value .left = omega arith in
+      rw (same, drop-drop (x .from) at text)
 
-    name-length : length (take (x .value .left) (drop (x .from) (drop at text))) ≡ x .value .left
-    name-length =
-        let p = place-of (ready .line) in
-        length-take-le (x .value .left) (drop (x .from) (drop at text))
-        (omega (arith, p .line .left, p .line .within, length-drop (x .from) (drop at text)))
+  name-length : length (itemName (drop at text) x) ≡ x .value .left
+  name-length =
+      length-take-le (x .value .left) (drop (x .from) (drop at text))
+      (omega (arith, place .line .left, place .line .within, length-drop (x .from) (drop at text)))
 
-    module _ (few : c .items < mostItems) {y : Found}
-        (e : y ≡ findIn names (c .items) (take (x .value .left) (drop (at + x .from) text))) where
-      looked : findIn names (c .items) (take (x .value .left) (drop (x .from) (drop at text))) ≡ y
-      looked = rw (drop-drop (x .from) at text) (sym e)
+  pub name-ready : NameReady (take (at + x .from + x .value .left - (at + x .from)) (drop (at + x .from) text)) names
+  name-ready = record { short = rw (part, name-length) (place .line .name (ready .item)); room = ready .room }
 
-      pub item-twice : {r : Stepped} → r ≡ stopsAt Fault.NameTwice (c .lines + 1) → OneOf (0 ∷ 2 ∷ []) (enum.Declared.tagOf found.the-type y)
-          → ItemStepped c names (drop at text) x r names
-      unfolding itemStep
-      item-twice f g = record { turn = λ words. rw (f, lt-ltb (c .items) mostItems few, looked, not-absent y g) }
+  module _ {b : Added} {names′ : List ℕ}
+      (a : ItemAdded names (c .items) (take (at + x .from + x .value .left - (at + x .from)) (drop (at + x .from) text)) b names′) where
+    told : {y : Added} → b ≡ y → itemAdded names (c .items) (itemName (drop at text) x) ≡ y
+    told e = rw part at (sym (a .told) ∙ e)
 
-      pub item-new : y ≡ Found.Absent → {names′ : List ℕ} {q : ℕ}
-          → Put names (c .items * nameRoom) (take (at + x .from + x .value .left - (at + x .from)) (drop (at + x .from) text)) names′ q
-          → {d : Counts} → d ≡ counted c Key.Item (c .items + 1) (c .rules) → {k : ℕ} → k ≡ lineLen x
-          → ItemStepped c names (drop at text) x (Stepped.On d k) names′
-      unfolding itemStep
-      item-new g {names′} {q} p {d} h {k} i = record {
-        turn = λ words. rw (h, i, put, lt-ltb (c .items) mostItems few, looked, g);
-      }
-        where
-          put : names′ ≡ over names (c .items * nameRoom) (take (x .value .left) (drop (x .from) (drop at text)))
-          put =
-              put-buffer (rw part at p)
-              (omega (arith, name-length, place-of (ready .line) .line .name (ready .item), ready .room))
+    pub item-counted : b ≡ Added.Yes → Fits w64 (c .items + 1)
+    item-counted e = record { fits = omega (arith, few _ (ltb (c .items) mostItems) refl (told e)) }
+      where
+        few : (y : Added) (d : Bool) → ltb (c .items) mostItems ≡ d → cond d y (Added.No Fault.TooMany) ≡ Added.Yes → c .items < mostItems
+        few y true h g = ltb-true (c .items) mostItems h
+        few y false h g = let never : _≡_ {A = ℕ} 0 1 = cc in absurd (omega arith)
+
+    pub item-took : b ≡ Added.Yes → {r : Stepped} → r ≡ wentOn c x (c .items + 1) (c .rules) → ItemStepped c names (drop at text) x r names′
+    item-took e f = record {
+      turn = λ words.
+          rw f
+          (sym
+          (item-turn (stateOf c names words) (drop at text) x
+          ∙ rw (told e)
+          (ap₂ (λ (k : Key) (t : List ℕ). on (stateOf (counted c k (c .items + 1) (c .rules)) t words) (lineLen x)) (sym (ready .item))
+          (sym (rw (e, part) at (a .table))))));
+    }
+
+    pub item-not : {f : Fault} → b ≡ Added.No f → {r : Stepped} → r ≡ stopsAt f (c .lines + 1) → ItemStepped c names (drop at text) x r names′
+    item-not e f = record {
+      turn = λ words. rw (f, rw e at (a .table)) (sym (item-turn (stateOf c names words) (drop at text) x ∙ rw (told e)));
+    }
 
 -- A rule's line.
-module _ (text : List ℕ) (at : ℕ) (x : Line) (c : Counts) (names words : List ℕ) where
-  pub rule-full : {r : Stepped} → r ≡ stopsAt Fault.TooMany (c .lines + 1) → mostRules ≤ c .rules → turnOf r names words ≡ ruleStep (stateOf c names words) (drop at text) x
-  unfolding ruleStep
-  rule-full e h = rw (e, le-ltb (c .rules) mostRules h)
+rule-turn : (st : State) (l : List ℕ) (x : Line)
+    → ruleStep st l x ≡ turnBy st (withRule st l x) (lineLen x)
+    (cond (ltb (st .counts .rules) mostRules && leb (x .value .names) mostLeft)
+    (cond (allFound st l x) (cond (rising (x .value .names) (leftPlaces (leftNumbers st l x))) Added.Yes (Added.No Fault.LeftOrder)) (Added.No Fault.NoSuchItem))
+    (Added.No Fault.TooMany))
+unfolding ruleStep
+rule-turn st l x =
+    rw (turn-cond st (withRule st l x) (lineLen x) (rising (x .value .names) (leftPlaces (leftNumbers st l x))) Added.Yes Fault.LeftOrder)
+    (rw (turn-cond st (withRule st l x) (lineLen x) (allFound st l x) _ Fault.NoSuchItem)
+    (turn-cond st (withRule st l x) (lineLen x) (ltb (st .counts .rules) mostRules && leb (x .value .names) mostLeft) _ Fault.TooMany))
 
-  module _ (few : c .rules < mostRules) where
-    pub rule-ninth : {r : Stepped} → r ≡ stopsAt Fault.TooMany (c .lines + 1) → mostLeft < x .value .names → turnOf r names words ≡ ruleStep (stateOf c names words) (drop at text) x
-    unfolding ruleStep
-    rule-ninth e h = rw (e, lt-ltb (c .rules) mostRules few, lt-leb (x .value .names) mostLeft h)
+module _ {text : List ℕ} {at : ℕ} {x : Line} {c : Counts} {words : List ℕ} (ready : RuleReady text at x c words) where
+  rule-place : Place text at x
+  rule-place = place-of (ready .line)
 
-    module _ (eight : x .value .names ≤ mostLeft) (ready : RuleReady text at x c words) where
-      pub rule-from : length text < 2 ^ 64 → Fits w64 (at + x .from)
-      rule-from h = let p = place-of (ready .line) in record { fits = omega (arith, p .end, p .line .left) }
+  pub rule-from : Fits w64 (at + x .from)
+  rule-from = record { fits = omega (arith, rule-place .end, rule-place .line .left, ready .line .text) }
 
-      pub rule-look : {left : List ℕ} → length left ≡ mostLeft → LookReady text (at + x .from) (x .value .names) left
-      rule-look e =
-          let p = place-of (ready .line) in
-          record { text = ready .line .text; place = omega (arith, p .end, p .line .left, ready .line .text); few = eight; room = e }
+  pub names-ready : NamesReady text (at + x .from) (x .value) words
+  names-ready = record {
+    text = ready .line .text;
+    within = omega (arith, rule-place .end, rule-place .line .left);
+    room = ready .room;
+  }
 
-      pub rule-colon : Fits w64 (at + x .from + x .value .left)
-      rule-colon = let p = place-of (ready .line) in record { fits = omega (arith, p .end, p .line .left, ready .line .text) }
+  front : drop (x .from) (drop at text) ≡ drop (at + x .from) text
+  front = drop-drop (x .from) at text
 
-      pub rule-right : Fits w64 (at + x .from + x .value .left + 1)
-      rule-right = let p = place-of (ready .line) in record { fits = omega (arith, p .end, p .line .left, ready .line .text) }
+  behind : drop (x .from + x .value .left + 1) (drop at text) ≡ drop (at + x .from + x .value .left + 1) text
+  behind =
+      drop-drop (x .from + x .value .left + 1) at text
+      ∙ rw (← add-assoc at (x .from + x .value .left) 1, ← add-assoc at (x .from) (x .value .left))
 
-      front : drop (at + x .from) text ≡ drop (x .from) (drop at text)
-      front = sym (drop-drop (x .from) at text)
+  module _ {names : List ℕ} {kind : ℕ} (same : kind ≡ ruleKind (x .key)) {b : Added} {words′ : List ℕ}
+      (a : RuleAdded names (c .items) text (at + x .from) kind (x .value) words (c .rules) b words′) where
+    taken : {y : Added} → b ≡ y
+        → ruleStep (stateOf c names words) (drop at text) x ≡ turnBy (stateOf c names words) (withRule (stateOf c names words) (drop at text) x) (lineLen x) y
+    unfolding allFound
+    taken e = rule-turn (stateOf c names words) (drop at text) x ∙ rw (front, behind, ← a .told, e)
 
-      module _ {left left′ : List ℕ} {b : Bool} (e : left ≡ replicate mostLeft 0)
-          (f : LooksUp names (c .items) (x .value .names) (drop (at + x .from) text) left b left′) where
-        every : everyItem names (c .items) (x .value .names) (drop (x .from) (drop at text)) ≡ b
-        every = ap (everyItem names (c .items) (x .value .names)) (sym front) ∙ sym (f .told)
+    pub rule-counted : b ≡ Added.Yes → Fits w64 (c .rules + 1)
+    rule-counted e = record { fits = omega (arith, few _ (ltb (c .rules) mostRules && leb (x .value .names) mostLeft) refl (sym (a .told) ∙ e)) }
+      where
+        few : (y : Added) (d : Bool) → (ltb (c .rules) mostRules && leb (x .value .names) mostLeft) ≡ d → cond d y (Added.No Fault.TooMany) ≡ Added.Yes
+            → c .rules < mostRules
+        few y true h g = ltb-true (c .rules) mostRules (and-left _ _ h)
+        few y false h g = let never : _≡_ {A = ℕ} 0 1 = cc in absurd (omega arith)
 
-        pub rule-no-left : {r : Stepped} → r ≡ stopsAt Fault.NoSuchItem (c .lines + 1) → not b ≡ true → turnOf r names words ≡ ruleStep (stateOf c names words) (drop at text) x
-        unfolding ruleStep allFound
-        rule-no-left g h =
-            rw (g, lt-ltb (c .rules) mostRules few, le-leb (x .value .names) mostLeft eight, every, not-true b h)
+    pub rule-took : b ≡ Added.Yes → {r : Stepped} → r ≡ wentOn c x (c .items) (c .rules + 1)
+        → RuleStepped c names words (drop at text) x r words′
+    rule-took e f = record { turn = rw (f, rw (e, same, ← front, ← behind) at (a .table)) (sym (taken e)) }
 
-        module _ (h : not b ≡ false) {y : Found}
-            (i : y ≡ rightItemAt names (c .items) (x .value .right) (drop (at + x .from + x .value .left + 1) text)) where
-          right : rightItemAt names (c .items) (x .value .right) (drop (x .from + x .value .left + 1) (drop at text)) ≡ y
-          right =
-              ap (rightItemAt names (c .items) (x .value .right)) (drop-drop (x .from + x .value .left + 1) at text)
-              ∙ rw (← add-assoc at (x .from + x .value .left) 1, ← add-assoc at (x .from) (x .value .left)) (sym i)
+    pub rule-not : {f : Fault} → b ≡ Added.No f → {r : Stepped} → r ≡ stopsAt f (c .lines + 1) → RuleStepped c names words (drop at text) x r words′
+    rule-not e f = record { turn = rw (f, rw e at (a .table)) (sym (taken e)) }
 
-          pub rule-no-right : {r : Stepped} → r ≡ stopsAt Fault.NoSuchItem (c .lines + 1)
-              → OneOf (1 ∷ 2 ∷ []) (enum.Declared.tagOf found.the-type y) → turnOf r names words ≡ ruleStep (stateOf c names words) (drop at text) x
-          unfolding ruleStep allFound
-          rule-no-right g j =
-              rw (g, lt-ltb (c .rules) mostRules few, le-leb (x .value .names) mostLeft eight, every, not-false b h, right, not-item y j)
-
-          module _ {k : ℕ} (g : y ≡ Found.At k) {d : Bool} (j : d ≡ rising (x .value .names) left′) where
-            places : left′ ≡ leftPlaces (numbersOf names (c .items) (x .value .names) (drop (x .from) (drop at text)))
-            places = f .items (not-false b h) ∙ rw (e, front)
-
-            pub rule-order : {r : Stepped} → r ≡ stopsAt Fault.LeftOrder (c .lines + 1) → not d ≡ true → turnOf r names words ≡ ruleStep (stateOf c names words) (drop at text) x
-            unfolding ruleStep allFound
-            rule-order o p =
-                rw (
-                  o,
-                  lt-ltb (c .rules) mostRules few,
-                  le-leb (x .value .names) mostLeft eight,
-                  every,
-                  not-false b h,
-                  right,
-                  g,
-                  ← places,
-                  ← j,
-                  not-true d p,
-                )
-
-            pub rule-new : not d ≡ false → {z : Rule} {u : ℕ} → u ≡ ruleKind (x .key)
-                → z ≡ record { kind = u; count = x .value .names; left = left′; right = k; class = x .value .class }
-                → {b′ : Bool} {words′ : List ℕ} → RulePut z (c .rules) words b′ words′
-                → {e′ : Counts} → e′ ≡ counted c (x .key) (c .items) (c .rules + 1) → {n : ℕ} → n ≡ lineLen x
-                → turnOf (Stepped.On e′ n) names words′ ≡ ruleStep (stateOf c names words) (drop at text) x
-            unfolding ruleStep allFound
-            rule-new p {z} {u} q s {b′} {words′} v {e′} w {n} o =
-                rw (
-                  put-told v (omega (arith, ready .room)),
-                  s,
-                  q,
-                  w,
-                  o,
-                  lt-ltb (c .rules) mostRules few,
-                  le-leb (x .value .names) mostLeft eight,
-                  every,
-                  not-false b h,
-                  right,
-                  g,
-                  ← places,
-                  ← j,
-                  not-false d p,
-                )
+-- A key that is not form, item or end is a rule's.
+rule-key : (k : Key) (st : State) (l : List ℕ) (x : Line) → OneOf (2 ∷ 3 ∷ 4 ∷ []) (enum.Declared.tagOf key.the-type k) → keyStep k st l x ≡ ruleStep st l x
+rule-key Key.Cap st l x h = refl
+rule-key Key.Floor st l x h = refl
+rule-key Key.Follow st l x h = refl
+rule-key Key.Form st l x (inl e) = absurd (omega arith)
+rule-key Key.Form st l x (inr (inl e)) = absurd (omega arith)
+rule-key Key.Form st l x (inr (inr e)) = absurd (omega arith)
+rule-key Key.Item st l x (inl e) = absurd (omega arith)
+rule-key Key.Item st l x (inr (inl e)) = absurd (omega arith)
+rule-key Key.Item st l x (inr (inr e)) = absurd (omega arith)
+rule-key Key.End st l x (inl e) = absurd (omega arith)
+rule-key Key.End st l x (inr (inl e)) = absurd (omega arith)
+rule-key Key.End st l x (inr (inr e)) = absurd (omega arith)
 
 -- Any line: y is what is read at the place.
 pub line-ready : {text : List ℕ} {at : ℕ} {x : Line} {c : Counts} {names words : List ℕ} {y : ReadLine} → Ready text c names words → y ≡ lineAt (drop at text)
     → y ≡ ReadLine.Found x → LineReady text at x c
 line-ready r e f = record { text = r .text; lines = r .lines; here = sym e ∙ f }
+
+pub form-counts : (text : List ℕ) (at : ℕ) {x : Line} {c : Counts} {names words : List ℕ} {y : ReadLine} → y ≡ ReadLine.Found x → y ≡ lineAt (drop at text)
+    → Ready text c names words → Counting c x
+form-counts text at f e r = line-counts (line-ready {at = at} r e f)
 
 pub item-ready : {text : List ℕ} {at : ℕ} {x : Line} {c : Counts} {names words : List ℕ} {y : ReadLine} → Ready text c names words → y ≡ lineAt (drop at text)
     → y ≡ ReadLine.Found x → x .key ≡ Key.Item → ItemReady text at x c names
@@ -295,25 +284,17 @@ module _ (text : List ℕ) (at : ℕ) (c : Counts) (names words : List ℕ) (h :
       unfolding lineStep
       by-key = first ∙ rw (f, table, not-false b j)
 
-      pub step-form : x .key ≡ Key.Form → {d : Counts} → d ≡ counted c (x .key) (c .items) (c .rules) → {k : ℕ} → k ≡ lineLen x
-          → turnOf (Stepped.On d k) names words ≡ step (stateOf c names words) (drop at text)
-      step-form z {d} u {k} v = sym (by-key ∙ rw (z, u, v, z))
+      pub step-form : x .key ≡ Key.Form → {r : Stepped} → r ≡ wentOn c x (c .items) (c .rules)
+          → turnOf r names words ≡ step (stateOf c names words) (drop at text)
+      step-form z u = sym (by-key ∙ rw (z, u, z))
 
       pub step-item : x .key ≡ Key.Item → {r : Stepped} {names′ : List ℕ} → ItemStepped c names (drop at text) x r names′
           → turnOf r names′ words ≡ step (stateOf c names words) (drop at text)
       step-item z s = s .turn words ∙ sym (by-key ∙ rw z)
 
-      pub step-cap : x .key ≡ Key.Cap → {t : Turn} → t ≡ ruleStep (stateOf c names words) (drop at text) x
-          → t ≡ step (stateOf c names words) (drop at text)
-      step-cap z s = s ∙ sym (by-key ∙ rw z)
-
-      pub step-floor : x .key ≡ Key.Floor → {t : Turn} → t ≡ ruleStep (stateOf c names words) (drop at text) x
-          → t ≡ step (stateOf c names words) (drop at text)
-      step-floor z s = s ∙ sym (by-key ∙ rw z)
-
-      pub step-follow : x .key ≡ Key.Follow → {t : Turn} → t ≡ ruleStep (stateOf c names words) (drop at text) x
-          → t ≡ step (stateOf c names words) (drop at text)
-      step-follow z s = s ∙ sym (by-key ∙ rw z)
+      pub step-rule : OneOf (2 ∷ 3 ∷ 4 ∷ []) (enum.Declared.tagOf key.the-type (x .key)) → {r : Stepped} {words′ : List ℕ}
+          → RuleStepped c names words (drop at text) x r words′ → turnOf r names words′ ≡ step (stateOf c names words) (drop at text)
+      step-rule z s = s .turn ∙ sym (by-key ∙ rule-key (x .key) _ _ _ z)
 
       pub step-end : x .key ≡ Key.End → {r : Stepped} → EndStepped c (drop at text) x r
           → turnOf r names words ≡ step (stateOf c names words) (drop at text)

@@ -17,7 +17,7 @@ use Rattle.reader.specs.declared.line.Counts.{Counts}
 use Rattle.reader.specs.declared.line.Stepped.{Stepped}
 use Rattle.reader.specs.Lines.{State, Result, Turn, on, stop, step}
 use Rattle.reader.specs.Reading.{goOn, readFrom, readText}
-use Rattle.reader.specs.Inner.{stateOf, turnOf, Ready, StartsEmpty, Gives}
+use Rattle.reader.specs.InnerLines.{stateOf, turnOf, Ready, StartsEmpty, Gives}
 use Rattle.reader.proofs.LineCases.{TurnSays, step-says}
 
 -- A line that moves on is within the text, and counts itself.
@@ -79,11 +79,19 @@ pub record Reading (text names words : List ℕ) (c : Counts) (at : ℕ) : Type 
   pub within : at ≤ length text
   pub rest : readText text ≡ readAll (stateOf c names words) (drop at text)
 
-pub names-length : {text names words : List ℕ} → StartsEmpty text names words → length names ≡ mostItems * nameRoom
+names-length : {text names words : List ℕ} → StartsEmpty text names words → length names ≡ mostItems * nameRoom
 names-length s = ap length (s .names-empty) ∙ length-replicate {A = ℕ} (mostItems * nameRoom) 0
 
-pub words-length : {text names words : List ℕ} → StartsEmpty text names words → length words ≡ mostRules * ruleWords
+words-length : {text names words : List ℕ} → StartsEmpty text names words → length words ≡ mostRules * ruleWords
 words-length s = ap length (s .words-empty) ∙ length-replicate {A = ℕ} (mostRules * ruleWords) 0
+
+-- What keeps its length through a turn has the length that it began with.
+module _ {text names₀ words₀ names words : List ℕ} {c : Counts} {at : ℕ} (s : StartsEmpty text names₀ words₀) (w : Reading text names words c at) where
+  pub names-kept : (names′ : List ℕ) → length names′ ≡ length names → length names′ ≡ length names₀
+  names-kept names′ e = e ∙ w .ready .names-room ∙ sym (names-length s)
+
+  pub words-kept : (words′ : List ℕ) → length words′ ≡ length words → length words′ ≡ length words₀
+  words-kept words′ e = e ∙ w .ready .words-room ∙ sym (words-length s)
 
 pub reading-none : {text names words : List ℕ} → StartsEmpty text names words
     → Reading text names words (record { lines = 0; after = 0; items = 0; rules = 0 }) 0

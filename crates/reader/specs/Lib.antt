@@ -1,6 +1,7 @@
--- What the contracts of `reader` cite: looking up the names of a rule, one line after another, what reading a rulebook answers, and what the inner
--- functions need and give.
+-- What the contracts of `reader` cite: looking up the names of a rule, one line after another, and what reading a rulebook answers. The files named Inner hold
+-- what only the private functions and the proofs speak of.
 pub mod Names
 pub mod Lines
 pub mod Reading
-pub mod Inner
+pub mod InnerAdding
+pub mod InnerLines

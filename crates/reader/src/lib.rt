@@ -14,7 +14,7 @@ use rules::put_words;
 ghost use mathlib.Core.Path.{_≡_};
 ghost use Rattle.reader.specs.Lines.{refusedAt};
 ghost use Rattle.reader.specs.Reading.{saidRead, ReadSays};
-ghost use Rattle.reader.specs.Inner.{StartsEmpty, Gives};
+ghost use Rattle.reader.specs.InnerLines.{StartsEmpty, Gives, Holds, CopiedOut};
 
 // What reading answers: the head of the book; or a refusal, with its line, or 0.
 pub enum ReadBook {
@@ -36,6 +36,20 @@ pub fn read(text: &[u8], items: &mut [u8], rules: &mut [u64]) -> ReadBook
     let ReadBook::Book(head) = answer else {
         return answer;
     };
+    copy_out(head, &names, &words, items, rules)
+}
+
+// Copies the tables of a book to the front of lent ones. Refused with NoRoom where a lent table is shorter.
+fn copy_out(
+    head: Head,
+    names: &[u8],
+    words: &[u64],
+    items: &mut [u8],
+    rules: &mut [u64],
+) -> ReadBook
+    requires { ⌜ Holds head (now names) (now words) ⌝ }
+    ensures { λ r. ⌜ CopiedOut head (now (names .entry)) (now (words .entry)) (now (items .entry)) (now (rules .entry)) r (now (items .exit)) (now (rules .exit)) ⌝ }
+{
     let bytes = head.items * items::NAME_ROOM;
     let size = head.rules * rules::WORDS;
     if items.len() < bytes {
@@ -46,7 +60,7 @@ pub fn read(text: &[u8], items: &mut [u8], rules: &mut [u64]) -> ReadBook
     }
     put(&names[0..bytes], items, 0);
     put_words(&words[0..size], rules, 0);
-    answer
+    ReadBook::Book(head)
 }
 
 // A fault at a place.

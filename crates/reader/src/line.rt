@@ -1,18 +1,19 @@
 // One line of a rulebook, read into the tables.
 use super::ReadBook;
-use super::names::find_at;
 use super::names::look_up;
 use super::names::right_item;
 use super::names::rises;
 use super::refused;
 use items::Found;
 use items::NAME_ROOM;
+use items::find;
 use keys::Key;
 use keys::key_number;
 use keys::may_follow;
 use lines::Line;
 use lines::ReadLine;
 use lines::read_line;
+use lines::value::Value;
 use puts::put;
 use refusals::Fault;
 use refusals::MOST_ITEMS;
@@ -24,10 +25,11 @@ use rules::put_rule;
 ghost use mathlib.Core.Path.{_≡_};
 ghost use Prim.Native.Nat.{_+_, _≤_};
 ghost use lib.ListN.{drop};
-ghost use Rattle.lines.specs.Lines.{lineAt, lineLen};
-ghost use Rattle.reader.specs.Lines.{counted, ruleKind, ruleStep, step};
 ghost use Rattle.refusals.specs.Sizes.{mostText};
-ghost use Rattle.reader.specs.Inner.{stateOf, turnOf, Ready, LineReady, ItemReady, RuleReady, stopsAt, ItemStepped, EndStepped};
+ghost use Rattle.lines.specs.Lines.{lineLen};
+ghost use Rattle.reader.specs.Lines.{ruleKind, step};
+ghost use Rattle.reader.specs.InnerLines.{stateOf, turnOf, stopsAt, wentOn, Ready, Counting, LineReady, ItemReady, RuleReady, ItemStepped, RuleStepped, EndStepped};
+ghost use Rattle.reader.specs.InnerAdding.{NameReady, ItemAdded, NamesReady, RuleAdded};
 
 // How many lines have been read, which row of the key table is next, and how many items and rules there are.
 pub(crate) struct Counts {
@@ -41,6 +43,12 @@ pub(crate) struct Counts {
 pub(crate) enum Stepped {
     On(Counts, usize),
     Stop(ReadBook),
+}
+
+// Whether an item or a rule was added to its table, or why not.
+pub(crate) enum Added {
+    Yes,
+    No(Fault),
 }
 
 // Reads the line at a place.
@@ -65,16 +73,14 @@ pub(crate) fn step(
         return stopped(c, Fault::Order);
     }
     match key {
-        Key::Form => Stepped::On(next(c, key, c.items, c.rules), line_len(line)),
+        Key::Form => went(c, line, c.items, c.rules),
         Key::Item => item_step(text, at, line, c, names),
-        Key::Cap => rule_step(text, at, line, c, names, words),
-        Key::Floor => rule_step(text, at, line, c, names, words),
-        Key::Follow => rule_step(text, at, line, c, names, words),
+        Key::Cap | Key::Floor | Key::Follow => rule_step(text, at, line, c, names, words),
         Key::End => end_step(text, at, line, c),
     }
 }
 
-// A refusal at the line that is read.
+// A fault at the line that is read.
 fn stopped(c: Counts, fault: Fault) -> Stepped
     requires { ⌜ c .lines ≤ mostText ⌝ }
     ensures { λ r. ⌜ r ≡ stopsAt fault (c .lines + 1) ⌝ }
@@ -82,17 +88,19 @@ fn stopped(c: Counts, fault: Fault) -> Stepped
     Stepped::Stop(refused(fault, c.lines + 1))
 }
 
-// The counts after one more line.
-fn next(c: Counts, key: Key, items: usize, rules: usize) -> Counts
-    requires { ⌜ c .lines ≤ mostText ⌝ }
-    ensures { λ r. ⌜ r ≡ counted c key items rules ⌝ }
+// A line that was taken: the counts after it, with so many items and rules, and its length.
+fn went(c: Counts, line: Line, items: usize, rules: usize) -> Stepped
+    requires { ⌜ Counting c line ⌝ }
+    ensures { λ r. ⌜ r ≡ wentOn c line items rules ⌝ }
 {
-    Counts {
+    let key = line.key;
+    let next = Counts {
         lines: c.lines + 1,
         after: key_number(key) + 1,
-        items: items,
-        rules: rules,
-    }
+        items,
+        rules,
+    };
+    Stepped::On(next, line_len(line))
 }
 
 // The length of a line, with its LF.
@@ -103,25 +111,35 @@ fn line_len(line: Line) -> usize
     line.from + line.value.len + 1
 }
 
-// Puts the next item into the table: 4 where there are 256, 5 where the name was given before.
+// Adds the next item.
 fn item_step(text: &[u8], at: usize, line: Line, c: Counts, names: &mut [u8]) -> Stepped
     requires { ⌜ ItemReady (now text) at line c (now names) ⌝ }
     ensures { λ r. ⌜ ItemStepped c (now (names .entry)) (drop at (now (text .entry))) line r (now (names .exit)) ⌝ }
 {
-    if MOST_ITEMS <= c.items {
-        return stopped(c, Fault::TooMany);
-    }
     let from = at + line.from;
     let end = from + line.value.left;
-    let Found::Absent = find_at(text, from, line.value.left, names, c.items) else {
-        return stopped(c, Fault::NameTwice);
-    };
-    put(&text[from..end], names, c.items * NAME_ROOM);
-    Stepped::On(next(c, Key::Item, c.items + 1, c.rules), line_len(line))
+    match add_item(&text[from..end], names, c.items) {
+        Added::Yes => went(c, line, c.items + 1, c.rules),
+        Added::No(fault) => stopped(c, fault),
+    }
 }
 
-// Puts the next rule into the table: 4 where there are 1,024 or the line has over 8 left names, 6 where a name is no item, 7 where the left
-// names do not rise.
+// Puts a name behind n items: 4 where there are 256, 5 where the name was given before.
+fn add_item(name: &[u8], names: &mut [u8], n: usize) -> Added
+    requires { ⌜ NameReady (now name) (now names) ⌝ }
+    ensures { λ r. ⌜ ItemAdded (now (names .entry)) n (now (name .entry)) r (now (names .exit)) ⌝ }
+{
+    if MOST_ITEMS <= n {
+        return Added::No(Fault::TooMany);
+    }
+    let Found::Absent = find(names, n, name) else {
+        return Added::No(Fault::NameTwice);
+    };
+    put(name, names, n * NAME_ROOM);
+    Added::Yes
+}
+
+// Adds the next rule.
 fn rule_step(
     text: &[u8],
     at: usize,
@@ -131,38 +149,24 @@ fn rule_step(
     words: &mut [u64],
 ) -> Stepped
     requires { ⌜ RuleReady (now text) at line c (now words) ⌝ }
-    ensures { λ r. ⌜ turnOf r (now (names .entry)) (now (words .exit)) ≡ ruleStep (stateOf c (now (names .entry)) (now (words .entry))) (drop at (now (text .entry))) line ⌝ }
+    ensures { λ r. ⌜ RuleStepped c (now (names .entry)) (now (words .entry)) (drop at (now (text .entry))) line r (now (words .exit)) ⌝ }
 {
     let key = line.key;
     let value = line.value;
-    let class = value.class;
-    if MOST_RULES <= c.rules {
-        return stopped(c, Fault::TooMany);
-    }
-    if MOST_LEFT < value.names {
-        return stopped(c, Fault::TooMany);
-    }
     let from = at + line.from;
-    let mut left = [0u64; MOST_LEFT];
-    if !look_up(text, from, value.names, names, c.items, &mut left) {
-        return stopped(c, Fault::NoSuchItem);
+    match add_rule(
+        text,
+        from,
+        kind_of(key),
+        value,
+        names,
+        c.items,
+        words,
+        c.rules,
+    ) {
+        Added::Yes => went(c, line, c.items, c.rules + 1),
+        Added::No(fault) => stopped(c, fault),
     }
-    let Found::At(right) = right_item(text, from + value.left + 1, value.right, names, c.items)
-    else {
-        return stopped(c, Fault::NoSuchItem);
-    };
-    if !rises(&left, value.names) {
-        return stopped(c, Fault::LeftOrder);
-    }
-    let rule = Rule {
-        kind: kind_of(key),
-        count: value.names as u64,
-        left: left,
-        right: right as u64,
-        class: class,
-    };
-    put_rule(rule, words, c.rules);
-    Stepped::On(next(c, key, c.items, c.rules + 1), line_len(line))
 }
 
 // A rule's kind by its key.
@@ -177,6 +181,49 @@ fn kind_of(key: Key) -> u64
         Key::Follow => rules::FOLLOW,
         Key::End => 0,
     }
+}
+
+// Puts a rule, whose names stand at a place and are looked up among n items, behind r rules: 4 where there are 1,024 or the line has over 8 left
+// names, 6 where a name is no item, 7 where the left names do not rise.
+fn add_rule(
+    text: &[u8],
+    from: usize,
+    kind: u64,
+    value: Value,
+    names: &[u8],
+    n: usize,
+    words: &mut [u64],
+    r: usize,
+) -> Added
+    requires { ⌜ NamesReady (now text) from value (now words) ⌝ }
+    ensures { λ b. ⌜ RuleAdded (now (names .entry)) n (now (text .entry)) from kind value (now (words .entry)) r b (now (words .exit)) ⌝ }
+{
+    let class = value.class;
+    if MOST_RULES <= r {
+        return Added::No(Fault::TooMany);
+    }
+    if MOST_LEFT < value.names {
+        return Added::No(Fault::TooMany);
+    }
+    let mut left = [0u64; MOST_LEFT];
+    if !look_up(text, from, value.names, names, n, &mut left) {
+        return Added::No(Fault::NoSuchItem);
+    }
+    let Found::At(right) = right_item(text, from + value.left + 1, value.right, names, n) else {
+        return Added::No(Fault::NoSuchItem);
+    };
+    if !rises(&left, value.names) {
+        return Added::No(Fault::LeftOrder);
+    }
+    let rule = Rule {
+        kind,
+        count: value.names as u64,
+        left,
+        right: right as u64,
+        class,
+    };
+    put_rule(rule, words, r);
+    Added::Yes
 }
 
 // Ends the book: 8 where the count is not that of the lines before this one, and at the next line where text follows.

@@ -9,10 +9,10 @@ ghost use lib.ListN.{length, take, drop};
 ghost use Rattle.items.specs.Lookup.{findIn};
 ghost use Rattle.reader.specs.Names.{rising};
 ghost use Rattle.reader.specs.Lines.{rightItemAt};
-ghost use Rattle.reader.specs.Inner.{LookReady, LooksUp};
+ghost use Rattle.reader.specs.InnerAdding.{LookReady, LooksUp};
 
 // The item whose name is the len bytes at a place, or as many of them as the text has.
-pub(crate) fn find_at(text: &[u8], at: usize, len: usize, names: &[u8], n: usize) -> Found
+fn find_at(text: &[u8], at: usize, len: usize, names: &[u8], n: usize) -> Found
     ensures { λ r. ⌜ r ≡ findIn (now (names .entry)) n (take len (drop at (now (text .entry)))) ⌝ }
 {
     let from = at_most(text.len(), at);

@@ -14,10 +14,9 @@ use Rattle.items.specs.Lookup.{findIn}
 use Rattle.items.specs.declared.Found.{Found}
 use Rattle.items.proofs.Names.{name-spelled}
 use Rattle.items.proofs.Lookup.{HasName, find-is, name-is-name, own-name, found-name}
-use Rattle.items.proofs.Counted.{SameItems, find-counted}
+use Rattle.items.proofs.Counted.{SameItems, find-counted, front-items}
 use Rattle.laws.specs.Over.{over}
 use Rattle.laws.proofs.Buffers.{over-before, zeros-at, SameFront}
-use Rattle.items.proofs.Counted.{front-items}
 use Rattle.reader.proofs.Entries.{Spare, added-length, added-has, added-spare}
 
 -- The item table has its whole room, the first i items of t, and zeros behind them.

@@ -8,7 +8,7 @@ use native.Mathlib.Omega.{arith}
 use Rattle.keys.specs.Keys.{keyNumber, nextAllowed}
 use Rattle.lines.specs.declared.Line.{Line}
 use Rattle.reader.specs.Lines.{State, ruleKind, ruleStep, keyStep}
-use Rattle.reader.proofs.KeyRows.{NextRow, row-next, keyOfKind}
+use Rattle.reader.proofs.KeyRows.{row-next, keyOfKind}
 
 pub record KindKey (k : ℕ) : Type 0 where
   pub kind : ruleKind (keyOfKind k) ≡ k

@@ -1,7 +1,6 @@
 -- Why reading and writing undo each other. Reading and then writing: what is read passes the table tests (the crate `reader` has that), and its text is the
 -- text that was read. Writing and then reading: a written line reads back, and so does the whole text. Last the promises of the two routines, put together.
 pub mod KindKeys
-pub mod Pieces
 pub mod LineBytes
 pub mod LineTexts
 pub mod ReadWrite

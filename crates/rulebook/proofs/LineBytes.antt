@@ -10,6 +10,7 @@ use native.Mathlib.Omega.{arith}
 use lib.Dec.{ltb}
 use lib.ListN.{take, drop}
 use lib.Seq.{take-suc, take-add}
+use Rattle.scans.specs.Ascii.{lf}
 use Rattle.items.specs.Names.{nameRoom}
 use Rattle.scans.specs.Bytes.{nameByte, byteAt, runLen}
 use Rattle.scans.proofs.Places.{byte-in, byte-inside}
@@ -45,10 +46,10 @@ take-byte n l b e h =
 
 -- The bytes of a line: its key's text, its value's bytes, and LF.
 pub line-text : (l : List ℕ) (x : Line) → LineParts l x
-    → take (lineLen x) l ≡ keyText (x .key) ++ take (x .value .len) (drop (x .from) l) ++ (10 ∷ [])
+    → take (lineLen x) l ≡ keyText (x .key) ++ take (x .value .len) (drop (x .from) l) ++ (lf ∷ [])
 line-text l x h =
-    take-byte (x .from + x .value .len) l 10 (h .last) (omega arith)
-    ∙ ap (λ (y : List ℕ). y ++ (10 ∷ [])) (take-add (x .from) (x .value .len) l ∙ ap (λ (y : List ℕ). y ++ take (x .value .len) (drop (x .from) l)) front)
+    take-byte (x .from + x .value .len) l lf (h .last) (omega arith)
+    ∙ ap (λ (y : List ℕ). y ++ (lf ∷ [])) (take-add (x .from) (x .value .len) l ∙ ap (λ (y : List ℕ). y ++ take (x .value .len) (drop (x .from) l)) front)
   where
     front : take (x .from) l ≡ keyText (x .key)
     front = let here = key-is-text l (x .key) (x .from) (h .key) in ap (λ (k : ℕ). take k l) (here .size) ∙ here .begins .text

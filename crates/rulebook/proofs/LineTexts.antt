@@ -10,14 +10,14 @@ use native.Mathlib.Omega.{arith}
 use lib.ListN.{getD, take, drop}
 use lib.Seq.{take-add, drop-drop}
 use borrow.Author.Tests.{lt-ltb, le-ltb}
+use Rattle.scans.specs.Ascii.{lf, plus, digit1, colon}
 use Rattle.laws.proofs.Bools.{and-left, and-right}
-use Rattle.scans.specs.Bytes.{nameByte}
 use Rattle.items.specs.Table.{nameOf}
 use Rattle.items.specs.Lookup.{findIn}
 use Rattle.rules.specs.Record.{leftItem}
 use Rattle.rules.specs.declared.Rule.{Rule}
 use Rattle.rules.proofs.Meaning.{by-kind}
-use Rattle.scans.specs.Bytes.{byteAt, runLen}
+use Rattle.scans.specs.Bytes.{byteAt, nameByte, runLen}
 use Rattle.keys.specs.Keys.{keyText}
 use Rattle.keys.specs.declared.Key.{Key}
 use Rattle.tokens.specs.Tokens.{nameAt, classText}
@@ -33,7 +33,7 @@ use Rattle.rulebook.proofs.LineBytes.{name-run, take-byte, line-text}
 use Rattle.reader.proofs.LineCases.{FormRead, ItemRead, RuleRead, EndRead}
 use Rattle.items.proofs.Entries.{found-bytes}
 use Rattle.reader.proofs.Numbers.{found-item, left-item, right-name}
-use Rattle.rulebook.proofs.Pieces.{pieces-one, pieces-first}
+use Rattle.writer.proofs.Pieces.{pieces-one, pieces-first}
 
 -- The item that bytes are looked up as has those bytes.
 item-bytes : (t : List ℕ) (n : ℕ) (name : List ℕ) → isItem (findIn t n name) ≡ true → nameOf t (itemNumber (findIn t n name)) ≡ name
@@ -64,21 +64,21 @@ module _ (t : List ℕ) (n : ℕ) (x : Rule) (k : ℕ) (l : List ℕ) (a : ℕ) 
   piece-name : nameOf t (leftItem x k) ≡ take a l
   piece-name = ap (nameOf t) item ∙ item-bytes t n (firstName l) found ∙ ap (λ (j : ℕ). take j l) (name-run l a e)
 
-  piece-last : byteAt (drop a l) ≡ 58 → k + 1 ≡ x .count → take (a + 1) l ≡ leftPiece t x k
-  piece-last b h = take-byte a l 58 b (omega arith) ∙ rw (piece-name, le-ltb (k + 1) (x .count) (omega arith))
+  piece-last : byteAt (drop a l) ≡ colon → k + 1 ≡ x .count → take (a + 1) l ≡ leftPiece t x k
+  piece-last b h = take-byte a l colon b (omega arith) ∙ rw (piece-name, le-ltb (k + 1) (x .count) (omega arith))
 
-  piece-plus : byteAt (drop a l) ≡ 43 → k + 1 < x .count → take (a + 1) l ≡ leftPiece t x k
-  piece-plus b h = take-byte a l 43 b (omega arith) ∙ rw (piece-name, lt-ltb (k + 1) (x .count) h)
+  piece-plus : byteAt (drop a l) ≡ plus → k + 1 < x .count → take (a + 1) l ≡ leftPiece t x k
+  piece-plus b h = take-byte a l plus b (omega arith) ∙ rw (piece-name, lt-ltb (k + 1) (x .count) h)
 
 -- The left names from number k on, with their signs.
 left-pieces : (t : List ℕ) (n : ℕ) (x : Rule) (c k : ℕ) (l : List ℕ) (len : ℕ) → k + c ≡ x .count → LeftNames c l len → everyItem t n c l ≡ true
-    → byteAt (drop len l) ≡ 58 → ((j : ℕ) → j < c → leftItem x (k + j) ≡ getD (numbersOf t n c l) j 0)
+    → byteAt (drop len l) ≡ colon → ((j : ℕ) → j < c → leftItem x (k + j) ≡ getD (numbersOf t n c l) j 0)
     → take (len + 1) l ≡ pieces (leftPiece t x) k c
-left-pieces t n x zero k l len count names found colon items = absurd names
-left-pieces t n x (suc zero) k l len count names found colon items =
-    piece-last t n x k l len names (every-first t n 0 l found) (ap (leftItem x) (sym (add-zero k)) ∙ items 0 (omega arith) ∙ numbers-first t n 0 l) colon count
+left-pieces t n x zero k l len count names found sign items = absurd names
+left-pieces t n x (suc zero) k l len count names found sign items =
+    piece-last t n x k l len names (every-first t n 0 l found) (ap (leftItem x) (sym (add-zero k)) ∙ items 0 (omega arith) ∙ numbers-first t n 0 l) sign count
     ∙ sym (pieces-one (leftPiece t x) k)
-left-pieces t n x (suc (suc c)) k l len count names found colon items =
+left-pieces t n x (suc (suc c)) k l len count names found sign items =
     ap (λ (j : ℕ). take j l) whole
     ∙ take-add (names .first + 1) (names .rest + 1) l
     ∙ ap₂ _++_ here
@@ -98,35 +98,35 @@ left-pieces t n x (suc (suc c)) k l len count names found colon items =
         piece-plus t n x k l (names .first) (names .name) (every-first t n (suc c) l found)
         (ap (leftItem x) (sym (add-zero k)) ∙ items 0 (omega arith) ∙ numbers-first t n (suc c) l) (names .plus) (omega arith)
 
-    behind : byteAt (drop (names .rest) (drop (names .first + 1) l)) ≡ 58
-    behind = ap byteAt (drop-drop (names .rest) (names .first + 1) l ∙ ap (λ (j : ℕ). drop j l) (sym (names .size))) ∙ colon
+    behind : byteAt (drop (names .rest) (drop (names .first + 1) l)) ≡ colon
+    behind = ap byteAt (drop-drop (names .rest) (names .first + 1) l ∙ ap (λ (j : ℕ). drop j l) (sym (names .size))) ∙ sign
 
     next : (j : ℕ) → suc k + j ≡ k + suc j
     next j = omega arith
 
 -- A line whose value has the bytes y.
 value-text : (l : List ℕ) (x : Line) (k : Key) (y : List ℕ) → x .key ≡ k
-    → take (lineLen x) l ≡ keyText (x .key) ++ take (x .value .len) (drop (x .from) l) ++ (10 ∷ []) → take (x .value .len) (drop (x .from) l) ≡ y
-    → take (lineLen x) l ≡ keyText k ++ y ++ (10 ∷ [])
-value-text l x k y e f g = f ∙ ap₂ (λ (j : Key) (z : List ℕ). keyText j ++ z ++ (10 ∷ [])) e g
+    → take (lineLen x) l ≡ keyText (x .key) ++ take (x .value .len) (drop (x .from) l) ++ (lf ∷ []) → take (x .value .len) (drop (x .from) l) ≡ y
+    → take (lineLen x) l ≡ keyText k ++ y ++ (lf ∷ [])
+value-text l x k y e f g = f ∙ ap₂ (λ (j : Key) (z : List ℕ). keyText j ++ z ++ (lf ∷ [])) e g
 
 module _ (st : State) (l : List ℕ) (x : Line) where
   abbrev value : List ℕ
   value = drop (x .from) l
 
   pub form-text : FormRead st l x → take (lineLen x) l ≡ formLine
-  form-text h = value-text l x Key.Form (49 ∷ []) (h .keyed) (line-text l x (h .here)) one
+  form-text h = value-text l x Key.Form (digit1 ∷ []) (h .keyed) (line-text l x (h .here)) one
     where
-      one : take (x .value .len) value ≡ 49 ∷ []
-      one = ap (λ (k : ℕ). take k value) (h .value .size) ∙ take-byte 0 value 49 (h .value .one) (omega arith)
+      one : take (x .value .len) value ≡ digit1 ∷ []
+      one = ap (λ (k : ℕ). take k value) (h .value .size) ∙ take-byte 0 value digit1 (h .value .one) (omega arith)
 
-  pub item-text : ItemRead st l x → take (lineLen x) l ≡ keyText Key.Item ++ itemName l x ++ (10 ∷ [])
+  pub item-text : ItemRead st l x → take (lineLen x) l ≡ keyText Key.Item ++ itemName l x ++ (lf ∷ [])
   item-text h =
       value-text l x Key.Item (itemName l x) (h .keyed) (line-text l x (h .here)) (ap (λ (k : ℕ). take k value) (h .value .size))
 
   pub end-text : EndRead st l x → take (lineLen x) l ≡ endLine (st .counts .lines)
   end-text h =
-      value-text l x Key.End _ (h .keyed) (line-text l x (h .here)) (count-is-text value _ _ (h .value .count) .text)
+      value-text l x Key.End _ (h .keyed) (line-text l x (h .here)) (count-is-text value _ (h .value .count) .text)
       ∙ ap endLine (h .count)
 
   module _ (h : RuleRead st l x) where
@@ -150,7 +150,7 @@ module _ (st : State) (l : List ℕ) (x : Line) where
     class-parts : ruleKind (x .key) < 2 → take (x .value .len) value ≡ leftText t rule ++ classText (x .value .class)
     class-parts z =
         let tail = h .value .classed z in
-        rule-parts (tail .width) (classText (x .value .class)) (tail .size) (class-is-text _ _ _ (tail .class) .text)
+        rule-parts (tail .width) (classText (x .value .class)) (tail .size) (class-is-text _ _ (tail .class) .text)
 
     name-parts : ruleKind (x .key) ≡ 2 → take (x .value .len) value ≡ leftText t rule ++ nameOf t (rule .right)
     name-parts z = rule-parts (x .value .right) (nameOf t (rule .right)) (h .value .named z .size) (sym named)
@@ -167,7 +167,7 @@ module _ (st : State) (l : List ℕ) (x : Line) where
     pub rule-text : take (lineLen x) l ≡ ruleLine t rule
     rule-text =
         value-text l x (ruleKey rule) (leftText t rule ++ rightText t rule) (h .keyed) (line-text l x (h .here)) parts
-        ∙ ap (λ (y : List ℕ). y ++ (10 ∷ [])) (sym (append-assoc (keyText (ruleKey rule)) (leftText t rule) (rightText t rule)))
+        ∙ ap (λ (y : List ℕ). y ++ (lf ∷ [])) (sym (append-assoc (keyText (ruleKey rule)) (leftText t rule) (rightText t rule)))
       where
         parts : take (x .value .len) value ≡ leftText t rule ++ rightText t rule
         parts =

@@ -12,9 +12,9 @@ use lib.Dec.{ltb}
 use lib.ListN.{length, getD, List·getD-eq-default}
 use lib.Seq.{take-at, drop-at, drop-drop}
 use borrow.Author.Tests.{lt-ltb}
+use Rattle.scans.specs.Ascii.{lf, plus, colon}
 use Rattle.laws.proofs.Every.{every-all}
 use Rattle.items.specs.Names.{isName}
-use Rattle.scans.specs.Bytes.{nameByte}
 use Rattle.items.specs.Lookup.{findIn}
 use Rattle.items.specs.declared.Found.{Found}
 use Rattle.items.proofs.Names.{name-spelled}
@@ -22,7 +22,7 @@ use Rattle.rules.specs.Record.{byKind, leftItem}
 use Rattle.rules.specs.declared.Rule.{Rule}
 use Rattle.accepts.specs.Accepted.{LeftAccepted}
 use Rattle.refusals.specs.Sizes.{mostLeft}
-use Rattle.scans.specs.Bytes.{runLen}
+use Rattle.scans.specs.Bytes.{nameByte, runLen}
 use Rattle.reader.specs.Names.{firstName, restNames, everyItem, numbersOf, rising}
 use Rattle.reader.specs.Lines.{leftPlaces, rightItemAt}
 use Rattle.reader.proofs.LookUps.{right-none, right-some}
@@ -42,7 +42,7 @@ module _ (x : List ℕ) (b : ℕ) (rest : List ℕ) (e : isName x ≡ true) (f :
   rest-names : restNames (x ++ b ∷ rest) ≡ rest
   rest-names = rw run-name (sym (drop-drop 1 (length x) (x ++ b ∷ rest)) ∙ rw (drop-at x (b ∷ rest) (length x) refl))
 
-sign-no-name : (b : Bool) → nameByte (cond b 43 58) ≡ false
+sign-no-name : (b : Bool) → nameByte (cond b plus colon) ≡ false
 sign-no-name true = plus-no-name
 sign-no-name false = colon-no-name
 
@@ -65,7 +65,7 @@ numbered-at item (suc d) k (suc j) h = numbered-at item d (suc k) j (omega arith
 module _ (t : List ℕ) (n : ℕ) (name : ℕ → List ℕ) (item : ℕ → ℕ) (c : ℕ) (ok : (j : ℕ) → j < c → isName (name j) ≡ true)
     (found : (j : ℕ) → j < c → findIn t n (name j) ≡ Found.At (item j)) where
   abbrev sign : ℕ → ℕ
-  sign k = cond (ltb (k + 1) c) 43 58
+  sign k = cond (ltb (k + 1) c) plus colon
 
   whole : (k : ℕ) (l rest : List ℕ) → signed name c k ++ l ++ rest ≡ name k ++ sign k ∷ (l ++ rest)
   whole k l rest = append-assoc (signed name c k) l rest ∙ append-assoc (name k) (sign k ∷ []) (l ++ rest)
@@ -121,9 +121,9 @@ module _ {n : ℕ} {x : Rule} (a : LeftAccepted n x) where
 
 -- The right name of a follow gives its item; a cap and a floor have none, which gives item 0.
 pub right-found : (t : List ℕ) (n k : ℕ) (class x rest : List ℕ) (i : ℕ) → (k < 2 → i ≡ 0) → (2 ≤ k → findIn t n x ≡ Found.At i)
-    → (2 ≤ k → isName x ≡ true) → rightItemAt t n (byKind k 0 0 (length x)) (byKind k class class x ++ 10 ∷ rest) ≡ Found.At i
+    → (2 ≤ k → isName x ≡ true) → rightItemAt t n (byKind k 0 0 (length x)) (byKind k class class x ++ lf ∷ rest) ≡ Found.At i
 right-found t n zero class x rest i z f ok = sym (right-none t n 0 _ refl) ∙ ap Found.At (sym (z (omega arith)))
 right-found t n (suc zero) class x rest i z f ok = sym (right-none t n 0 _ refl) ∙ ap Found.At (sym (z (omega arith)))
 right-found t n (suc (suc k)) class x rest i z f ok =
-    sym (right-some t n (length x) (x ++ 10 ∷ rest) (λ e. omega (arith, name-spelled x (ok (omega arith)) .least)) refl)
-    ∙ rw (take-at x (10 ∷ rest) (length x) refl) (f (omega arith))
+    sym (right-some t n (length x) (x ++ lf ∷ rest) (λ e. omega (arith, name-spelled x (ok (omega arith)) .least)) refl)
+    ∙ rw (take-at x (lf ∷ rest) (length x) refl) (f (omega arith))

@@ -8,29 +8,31 @@ use Prim.Native.Nat.{ℕ, _+_, _*_, _≤_}
 use native.Mathlib.Omega.{arith}
 use lib.ListN.{length, take, drop, take-append-drop}
 use lib.Seq.{take-all}
+use Rattle.scans.specs.Ascii.{lf}
 use Rattle.items.specs.Names.{nameRoom, isName}
 use Rattle.rules.specs.Table.{ruleAt}
+use Rattle.rules.specs.declared.Head.{Head}
 use Rattle.keys.specs.Keys.{keyText}
 use Rattle.keys.specs.declared.Key.{Key}
 use Rattle.lines.specs.Lines.{lineLen}
 use Rattle.lines.specs.declared.Line.{Line}
 use Rattle.reader.specs.declared.ReadBook.{ReadBook}
-use Rattle.reader.specs.Lines.{State, start, Result, itemName, withItem, ruleOf, withRule}
+use Rattle.reader.specs.Lines.{State, start, Result, itemName, withItem, ruleOf, withRule, headOf}
 use Rattle.reader.specs.Reading.{readText}
-use Rattle.writer.specs.Texts.{pieces, formLine, endLine, itemLine, ruleLine, bookText}
+use Rattle.writer.specs.Texts.{pieces, formLine, endLine, itemLine, itemLines, ruleLine, ruleLines, bookText}
 use Rattle.reader.proofs.LineCases.{FormRead, ItemRead, RuleRead, EndRead, Cases, formNext, read-says}
 use Rattle.reader.proofs.Entries.{added-has, added-same}
 use Rattle.items.proofs.Entries.{has-name-of, same-names}
-use Rattle.rulebook.proofs.Pieces.{pieces-zero, pieces-grown}
+use Rattle.writer.proofs.Pieces.{pieces-zero, pieces-grown}
 use Rattle.rulebook.proofs.LineTexts.{form-text, item-text, rule-text, end-text}
 use Rattle.reader.proofs.ReadRight.{Right, no-rules, right-start, right-form, item-name, item-room, right-item, rule-here, rule-before, right-rule}
 
 -- What would be written of the items and of the rules so far, and of the tables so far but for the end line.
 abbrev itemTexts : State → List ℕ
-itemTexts st = pieces (itemLine (st .names)) 0 (st .counts .items)
+itemTexts st = itemLines (st .names) (st .counts .items)
 
 abbrev ruleTexts : State → List ℕ
-ruleTexts st = pieces (λ r. ruleLine (st .names) (ruleAt (st .words) r)) 0 (st .counts .rules)
+ruleTexts st = ruleLines (st .names) (st .words) (st .counts .rules)
 
 abbrev pub textSoFar : State → List ℕ
 textSoFar st = formLine ++ itemTexts st ++ ruleTexts st
@@ -38,7 +40,7 @@ textSoFar st = formLine ++ itemTexts st ++ ruleTexts st
 module _ (st : State) (l : List ℕ) (right : Right st) (x : Line) where
   -- An item line adds the item's line.
   module _ (h : ItemRead st l x) where
-    item-grown : itemTexts (withItem st l x) ≡ itemTexts st ++ (keyText Key.Item ++ itemName l x ++ (10 ∷ []))
+    item-grown : itemTexts (withItem st l x) ≡ itemTexts st ++ (keyText Key.Item ++ itemName l x ++ (lf ∷ []))
     item-grown =
         pieces-grown (itemLine (st .names)) (itemLine (withItem st l x .names)) (st .counts .items) _
         (λ j s. ap line (same-names (added-same t n name e room (right .spare)) (right .tables .items) j s))
@@ -60,7 +62,7 @@ module _ (st : State) (l : List ℕ) (right : Right st) (x : Line) where
         room = item-room st l right x h
 
         line : List ℕ → List ℕ
-        line y = keyText Key.Item ++ y ++ (10 ∷ [])
+        line y = keyText Key.Item ++ y ++ (lf ∷ [])
 
     ruleless : (f : ℕ → List ℕ) (y : List ℕ) → y ++ pieces f 0 (st .counts .rules) ≡ y
     ruleless f y = ap (λ (z : List ℕ). y ++ z) (pieces-zero f 0 (st .counts .rules) (no-rules right (h .row .rise))) ∙ append-nil y
@@ -142,7 +144,7 @@ module _ (st : State) (l : List ℕ) (y : List ℕ) (reached : Reached y st) (x 
       reached-more (withRule st l x) (h .row .some) (omega arith) (right-rule st l (reached .right) x h) (rule-adds st l (reached .right) x h)
       (omega arith)
 
-  reached-end : EndRead st l x → bookText (st .names) (st .counts .items) (st .words) (st .counts .rules) ≡ y ++ l
+  reached-end : EndRead st l x → bookText (headOf (st .counts)) (st .names) (st .words) ≡ y ++ l
   unfolding bookText
   reached-end h =
       ap₂ _++_ (sym (reached .text (h .row .some)))
@@ -150,8 +152,8 @@ module _ (st : State) (l : List ℕ) (y : List ℕ) (reached : Reached y st) (x 
 
 -- An answer with its tables: what would be written of a book is the text.
 abbrev pub AnswerText : List ℕ → List ℕ → List ℕ → ReadBook → Type 0
-AnswerText z names words (ReadBook.Book n m) = bookText names n words m ≡ z
-AnswerText z names words (ReadBook.Refused f p) = Unit
+AnswerText z names words (ReadBook.Book h) = bookText h names words ≡ z
+AnswerText z names words (ReadBook.Refused r) = Unit
 
 abbrev pub ResultText : List ℕ → Result → Type 0
 ResultText z r = AnswerText z (r .names) (r .words) (r .answer)
@@ -164,7 +166,7 @@ record SoFar (z : List ℕ) (st : State) (l : List ℕ) : Type 0 where
 
 text-cases : (z : List ℕ) (st : State) (l : List ℕ) → SoFar z st l → Cases st l (λ next k. SoFar z next (drop k l)) (ResultText z)
 text-cases z st l p = record {
-  refused = λ f q. tt;
+  refused = λ f p h. tt;
   form = λ x h. next (lineLen x) (reached-form st l (p .read) (p .reached) x h);
   item = λ x h. next (lineLen x) (reached-item st l (p .read) (p .reached) x h);
   rule = λ x h. next (lineLen x) (reached-rule st l (p .read) (p .reached) x h);
@@ -178,7 +180,7 @@ text-cases z st l p = record {
       whole = append-assoc (p .read) (take k l) (drop k l) ∙ ap (λ (y : List ℕ). p .read ++ y) (take-append-drop k l) ∙ p .whole;
     }
 
-pub read-write : (l : List ℕ) (n m : ℕ) → readText l .answer ≡ ReadBook.Book n m → bookText (readText l .names) n (readText l .words) m ≡ l
-read-write l n m e =
+pub read-write : (l : List ℕ) {h : Head} → readText l .answer ≡ ReadBook.Book h → bookText h (readText l .names) (readText l .words) ≡ l
+read-write l e =
     subst (AnswerText l (readText l .names) (readText l .words)) e
     (read-says (SoFar l) (ResultText l) (text-cases l) (length l) start l (record { read = []; reached = reached-start; whole = refl }))

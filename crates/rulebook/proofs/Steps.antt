@@ -10,19 +10,19 @@ use native.Mathlib.Omega.{arith}
 use lib.ListN.{length, getD, take, drop}
 use lib.Seq.{take-at, drop-at, drop-drop}
 use borrow.Author.Tests.{lt-ltb, le-leb, eq-eqb}
+use Rattle.scans.specs.Ascii.{lf}
 use Rattle.classes.specs.Class.{classOf, lowest}
 use Rattle.classes.specs.declared.Class.{Class}
 use Rattle.items.specs.Names.{isName}
 use Rattle.items.specs.Table.{nameOf, ItemsOk}
-use Rattle.refusals.specs.Sizes.{mostItems}
 use Rattle.items.specs.Lookup.{findIn}
 use Rattle.items.specs.declared.Found.{Found}
 use Rattle.items.proofs.Lookup.{name-is-name}
 use Rattle.rules.specs.Record.{leftItem}
-use Rattle.rules.specs.Table.{ruleWords, wordAt, ruleAt}
+use Rattle.rules.specs.Table.{ruleWords, wordAt, ruleAt, wordsOf}
 use Rattle.rules.specs.declared.Rule.{Rule}
 use Rattle.accepts.specs.Accepted.{RuleAccepted}
-use Rattle.refusals.specs.Sizes.{mostRules, mostLeft}
+use Rattle.refusals.specs.Sizes.{mostItems, mostRules, mostLeft}
 use Rattle.keys.specs.Keys.{keyText}
 use Rattle.keys.specs.declared.Key.{Key}
 use Rattle.tokens.specs.Tokens.{countText, classText}
@@ -32,7 +32,6 @@ use Rattle.lines.specs.declared.Line.{Line}
 use Rattle.reader.specs.declared.ReadBook.{ReadBook}
 use Rattle.reader.specs.Names.{everyItem}
 use Rattle.reader.specs.Lines.{State, resultOf, on, stop, itemName, withItem, itemStep, leftNumbers, rightFound, ruleOf, withRule, allFound, ruleStep, endStep}
-use Rattle.rules.specs.Table.{wordsOf}
 use Rattle.writer.specs.Texts.{pieces, itemLine, leftText, rightText, ruleKey, ruleLine}
 use Rattle.laws.proofs.Buffers.{SameFront, same-more}
 use Rattle.rulebook.proofs.KindKeys.{kind-key}
@@ -54,9 +53,9 @@ pub record Filled (t w : List ℕ) (i r : ℕ) (st : State) : Type 0 where
 abbrev pub itemRead : List ℕ → Line
 itemRead x = lineWith Key.Item (namedValue 1 (length x) 0 lowest (length x))
 
-item-name : (x rest : List ℕ) → itemName (keyText Key.Item ++ x ++ 10 ∷ [] ++ rest) (itemRead x) ≡ x
+item-name : (x rest : List ℕ) → itemName (keyText Key.Item ++ x ++ lf ∷ [] ++ rest) (itemRead x) ≡ x
 item-name x rest =
-    ap (take (length x)) (append-assoc x (10 ∷ []) rest) ∙ take-at x (10 ∷ rest) (length x) refl
+    ap (take (length x)) (append-assoc x (lf ∷ []) rest) ∙ take-at x (lf ∷ rest) (length x) refl
 
 module _ {t w : List ℕ} {n : ℕ} (o : ItemsOk t n) {i r : ℕ} (h : i < n) {st : State} (f : Filled t w i r st) (rest : List ℕ) where
   pub item-step : itemStep st (itemLine t i ++ rest) (itemRead (nameOf t i))
@@ -115,19 +114,19 @@ module _ {t : List ℕ} {n : ℕ} (o : ItemsOk t n) (x : Rule) (a : RuleAccepted
       right-name
 
   module _ (rest : List ℕ) where
-    after-key : drop (length (keyText (ruleKey x))) (ruleLine t x ++ rest) ≡ leftText t x ++ (rightText t x ++ 10 ∷ rest)
+    after-key : drop (length (keyText (ruleKey x))) (ruleLine t x ++ rest) ≡ leftText t x ++ (rightText t x ++ lf ∷ rest)
     after-key =
         ap (drop (length (keyText (ruleKey x))))
-        (append-assoc (keyText (ruleKey x) ++ leftText t x ++ rightText t x) (10 ∷ []) rest
-        ∙ append-assoc (keyText (ruleKey x) ++ leftText t x) (rightText t x) (10 ∷ rest)
-        ∙ append-assoc (keyText (ruleKey x)) (leftText t x) (rightText t x ++ 10 ∷ rest))
-        ∙ drop-at (keyText (ruleKey x)) (leftText t x ++ (rightText t x ++ 10 ∷ rest)) (length (keyText (ruleKey x))) refl
+        (append-assoc (keyText (ruleKey x) ++ leftText t x ++ rightText t x) (lf ∷ []) rest
+        ∙ append-assoc (keyText (ruleKey x) ++ leftText t x) (rightText t x) (lf ∷ rest)
+        ∙ append-assoc (keyText (ruleKey x)) (leftText t x) (rightText t x ++ lf ∷ rest))
+        ∙ drop-at (keyText (ruleKey x)) (leftText t x ++ (rightText t x ++ lf ∷ rest)) (length (keyText (ruleKey x))) refl
 
-    after-left : drop (length (keyText (ruleKey x)) + sides .len + 1) (ruleLine t x ++ rest) ≡ rightText t x ++ 10 ∷ rest
+    after-left : drop (length (keyText (ruleKey x)) + sides .len + 1) (ruleLine t x ++ rest) ≡ rightText t x ++ lf ∷ rest
     after-left =
         ap (λ (k : ℕ). drop k (ruleLine t x ++ rest)) (add-assoc (length (keyText (ruleKey x))) (sides .len) 1)
         ∙ sym (drop-drop (sides .len + 1) (length (keyText (ruleKey x))) (ruleLine t x ++ rest))
-        ∙ rw after-key (drop-at (leftText t x) (rightText t x ++ 10 ∷ rest) (sides .len + 1) (sides .size))
+        ∙ rw after-key (drop-at (leftText t x) (rightText t x ++ lf ∷ rest) (sides .len + 1) (sides .size))
 
     module _ {w : List ℕ} {r : ℕ} {st : State} (f : Filled t w n r st) where
       left-found : (j : ℕ) → j < x .count → findIn (st .names) n (nameOf t (leftItem x j)) ≡ Found.At (leftItem x j)
@@ -137,13 +136,13 @@ module _ {t : List ℕ} {n : ℕ} (o : ItemsOk t n) (x : Rule) (a : RuleAccepted
       every-left =
           rw (after-key, f .items)
           (every-item (st .names) n (λ k. nameOf t (leftItem x k)) (leftItem x) (x .count) left-name left-found (x .count) 0
-          (rightText t x ++ 10 ∷ rest) (zero-add (x .count)))
+          (rightText t x ++ lf ∷ rest) (zero-add (x .count)))
 
       left-numbers : leftNumbers st (ruleLine t x ++ rest) ruleRead ≡ numbered (leftItem x) 0 (x .count)
       left-numbers =
           rw (after-key, f .items)
           (numbers-of (st .names) n (λ k. nameOf t (leftItem x k)) (leftItem x) (x .count) left-name left-found (x .count) 0
-          (rightText t x ++ 10 ∷ rest) (zero-add (x .count)))
+          (rightText t x ++ lf ∷ rest) (zero-add (x .count)))
 
       right-item : rightFound st (ruleLine t x ++ rest) ruleRead ≡ Found.At (x .right)
       right-item =
@@ -196,7 +195,7 @@ module _ {t : List ℕ} {n : ℕ} (o : ItemsOk t n) (x : Rule) (a : RuleAccepted
             (record { same = λ k l. same-more (wordsOf x) (f .words) (omega (arith, f .room)) g .same k (omega arith) });
       }
 
--- The words of a table's rule are its thirteen words in the table.
+-- The words of a table's rule are its words in the table.
 words-numbered : (w : List ℕ) (r : ℕ) → wordsOf (ruleAt w r) ≡ numbered (λ k. getD w (r * ruleWords + k) 0) 0 ruleWords
 unfolding ruleAt wordAt pieces
 words-numbered w r = refl
@@ -211,7 +210,7 @@ abbrev pub endRead : ℕ → Line
 endRead c = lineWith Key.End (unnamedValue c (length (countText c)))
 
 pub end-step : {t w : List ℕ} {n m : ℕ} {st : State} → Filled t w n m st → (l : List ℕ) → length l ≡ lineLen (endRead (1 + n + m))
-    → endStep st l (endRead (1 + n + m)) ≡ stop (resultOf st (ReadBook.Book n m))
+    → endStep st l (endRead (1 + n + m)) ≡ stop (resultOf st (ReadBook.Book (record { items = n; rules = m })))
 unfolding endStep
 end-step {n = n} {m = m} {st = st} f l e =
     rw (

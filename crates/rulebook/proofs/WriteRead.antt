@@ -10,13 +10,14 @@ use lib.ListN.{length, length-replicate}
 use Rattle.items.specs.Table.{nameOf}
 use Rattle.items.proofs.Lookup.{name-is-name}
 use Rattle.rules.specs.Table.{ruleWords, wordAt, ruleAt}
+use Rattle.rules.specs.declared.Head.{Head}
 use Rattle.refusals.specs.Sizes.{mostRules}
 use Rattle.reader.specs.declared.ReadBook.{ReadBook}
 use Rattle.reader.specs.Lines.{State, start, Result, resultOf}
 use Rattle.reader.specs.Reading.{readText}
-use Rattle.writer.specs.Texts.{pieces, formLine, itemLine, ruleLine, endLine, bookText}
-use Rattle.accepts.specs.Tables.{Tables}
-use Rattle.rulebook.specs.RoundTrip.{Words, ReadBack}
+use Rattle.writer.specs.Texts.{pieces, formLine, itemLine, itemLines, ruleLine, ruleLines, endLine, bookText}
+use Rattle.accepts.specs.Tables.{Tables, SameTables}
+use Rattle.rulebook.specs.RoundTrip.{Words}
 use Rattle.laws.proofs.Buffers.{same-take}
 use Rattle.reader.proofs.KeyRows.{form-next, NextRow, row-next}
 use Rattle.rulebook.proofs.KindKeys.{KindKey, kind-key, kind-step, kind-next}
@@ -26,9 +27,10 @@ use Rattle.rulebook.proofs.LinesRead.{form-line, item-line, end-line}
 use Rattle.rulebook.proofs.Filling.{holds-none}
 use Rattle.rulebook.proofs.Steps.{Filled, item-step, item-fills, rule-line, rule-step, rule-fills, record-words, end-step}
 
--- The result of reading is the book, and its tables are t and w up to their counts.
-abbrev Back : List ℕ → ℕ → List ℕ → ℕ → Result → Type 0
-Back t n w m r = ReadBack t n w m (r .answer) (r .names) (r .words)
+-- The result of reading is the book under the head h, and its tables are t and w up to their counts.
+pub record Back (h : Head) (t w : List ℕ) (r : Result) : Type 0 where
+  pub answer : r .answer ≡ ReadBook.Book h
+  pub tables : SameTables h (r .names) (r .words) t w
 
 -- The next of m rules may come, if there is one, and the end.
 record MayCome (w : List ℕ) (m r after : ℕ) : Type 0 where
@@ -38,10 +40,16 @@ record MayCome (w : List ℕ) (m r after : ℕ) : Type 0 where
 
 marks-small : {w : List ℕ} → Words w → (r : ℕ) → ruleAt w r .class .marks < 2 ^ 64
 unfolding ruleAt wordAt
-marks-small u r = u .small (r * 13 + 12)
+marks-small u r = u .small _
 
-module _ {t w : List ℕ} {n m : ℕ} (a : Tables t n w m) (u : Words w) where
-  back : {st : State} → Filled t w n m st → Back t n w m (resultOf st (ReadBook.Book n m))
+module _ {h : Head} {t w : List ℕ} (a : Tables h t w) (u : Words w) where
+  abbrev n : ℕ
+  n = h .items
+
+  abbrev m : ℕ
+  m = h .rules
+
+  back : {st : State} → Filled t w n m st → Back h t w (resultOf st (ReadBook.Book h))
   back f = record {
     answer = refl;
     tables = record {
@@ -51,10 +59,10 @@ module _ {t w : List ℕ} {n m : ℕ} (a : Tables t n w m) (u : Words w) where
   }
 
   end-reads : {st : State} → Filled t w n m st → 1 ≤ st .counts .after → st .counts .after ≤ 5
-      → Reads (Back t n w m) st (endLine (1 + n + m))
+      → Reads (Back h t w) st (endLine (1 + n + m))
   end-reads {st} f some most =
       let x = end-line (1 + n + m) (omega (arith, a .items .size, a .rules .accepted .rules)) in
-      subst (Reads (Back t n w m) st) (append-nil (endLine (1 + n + m)))
+      subst (Reads (Back h t w) st) (append-nil (endLine (1 + n + m)))
       (reads-end x [] (row-next (record { some = some; rise = omega arith }) (omega arith) (omega arith))
       (end-step f (endLine (1 + n + m) ++ []) (ap length (append-nil (endLine (1 + n + m))) ∙ sym (x .size)))
       (back f))
@@ -63,7 +71,7 @@ module _ {t w : List ℕ} {n m : ℕ} (a : Tables t n w m) (u : Words w) where
   rulesFrom r c = pieces (λ k. ruleLine t (ruleAt w k)) r c
 
   rules-read : (c r : ℕ) → r + c ≡ m → {st : State} → Filled t w n r st → MayCome w m r (st .counts .after)
-      → Reads (Back t n w m) st (rulesFrom r c ++ endLine (1 + n + m))
+      → Reads (Back h t w) st (rulesFrom r c ++ endLine (1 + n + m))
   unfolding pieces
   rules-read zero r e {st} f g = end-reads (subst (λ (k : ℕ). Filled t w n k st) (omega arith) f) (g .some) (g .most)
   rules-read (suc c) r e {st} f g =
@@ -83,7 +91,7 @@ module _ {t w : List ℕ} {n m : ℕ} (a : Tables t n w m) (u : Words w) where
       })))
 
   items-read : (c i : ℕ) → i + c ≡ n → {st : State} → Filled t w i 0 st → NextRow (st .counts .after) 1
-      → Reads (Back t n w m) st (pieces (itemLine t) i c ++ (rulesFrom 0 m ++ endLine (1 + n + m)))
+      → Reads (Back h t w) st (pieces (itemLine t) i c ++ (rulesFrom 0 m ++ endLine (1 + n + m)))
   unfolding pieces
   items-read zero i e {st} f g =
       rules-read m 0 (zero-add m) (subst (λ (k : ℕ). Filled t w k 0 st) (omega arith) f)
@@ -91,19 +99,19 @@ module _ {t w : List ℕ} {n m : ℕ} (a : Tables t n w m) (u : Words w) where
   items-read (suc c) i e {st} f g =
       let rest = pieces (itemLine t) (suc i) c ++ (rulesFrom 0 m ++ endLine (1 + n + m)) in
       let inside : i < n = omega arith in
-      subst (Reads (Back t n w m) st) (sym (append-assoc (itemLine t i) (pieces (itemLine t) (suc i) c) (rulesFrom 0 m ++ endLine (1 + n + m))))
+      subst (Reads (Back h t w) st) (sym (append-assoc (itemLine t i) (pieces (itemLine t) (suc i) c) (rulesFrom 0 m ++ endLine (1 + n + m))))
       (reads-line (item-line (nameOf t i) (name-is-name (a .items) i inside)) rest
       (row-next g (omega (arith, g .rise)) (omega arith)) (item-step (a .items) inside f rest)
       (items-read c (suc i) (omega arith) (item-fills (a .items) inside f rest)
       (record { some = omega arith; rise = omega arith })))
 
 -- The tables that the writer accepts, written and read, come back equal up to their counts.
-pub write-read : {t w : List ℕ} {n m : ℕ} → Tables t n w m → Words w → Back t n w m (readText (bookText t n w m))
+pub write-read : {h : Head} {t w : List ℕ} → Tables h t w → Words w → Back h t w (readText (bookText h t w))
 unfolding bookText
-write-read {t} {w} {n} {m} a u = whole .reads (length (bookText t n w m)) (le-refl _)
+write-read {h} {t} {w} a u = whole .reads (length (bookText h t w)) (le-refl _)
   where
-    rest : List ℕ
-    rest = pieces (itemLine t) 0 n ++ (pieces (λ k. ruleLine t (ruleAt w k)) 0 m ++ endLine (1 + n + m))
+    end : List ℕ
+    end = endLine (1 + h .items + h .rules)
 
     filled : Filled t w 0 0 (formNext start)
     filled = record {
@@ -112,14 +120,14 @@ write-read {t} {w} {n} {m} a u = whole .reads (length (bookText t n w m)) (le-re
       rules = refl;
       names = holds-none t;
       room = length-replicate {A = ℕ} (mostRules * ruleWords) 0;
-      words = record { same = λ k h. absurd (omega arith) };
+      words = record { same = λ k l. absurd (omega arith) };
     }
 
-    whole : Reads (Back t n w m) start (bookText t n w m)
+    whole : Reads (Back h t w) start (bookText h t w)
     whole =
-        subst (Reads (Back t n w m) start)
+        subst (Reads (Back h t w) start)
         (sym
-        (append-assoc (formLine ++ pieces (itemLine t) 0 n) (pieces (λ k. ruleLine t (ruleAt w k)) 0 m) (endLine (1 + n + m))
-        ∙ append-assoc formLine (pieces (itemLine t) 0 n) (pieces (λ k. ruleLine t (ruleAt w k)) 0 m ++ endLine (1 + n + m))))
-        (reads-line form-line rest form-next refl
-        (items-read a u n 0 (zero-add n) filled (record { some = omega arith; rise = omega arith })))
+        (append-assoc (formLine ++ itemLines t (h .items)) (ruleLines t w (h .rules)) end
+        ∙ append-assoc formLine (itemLines t (h .items)) (ruleLines t w (h .rules) ++ end)))
+        (reads-line form-line (itemLines t (h .items) ++ (ruleLines t w (h .rules) ++ end)) form-next refl
+        (items-read a u (h .items) 0 (zero-add (h .items)) filled (record { some = omega arith; rise = omega arith })))

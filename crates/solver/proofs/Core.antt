@@ -21,7 +21,7 @@ use Rattle.rules.specs.declared.Head.{Head}
 use Rattle.rules.specs.Table.{bookOf}
 use Rattle.solver.specs.Solving.{Buffers, labelsOf}
 use Rattle.solver.specs.InnerSteps.{bookIn, valuesIn, labelsAt, Settles}
-use Rattle.solver.specs.InnerLowers.{Lowers}
+use Rattle.solver.specs.InnerLowers.{LoweredParts, Lowers}
 use Rattle.solver.specs.InnerLabels.{Bounded, LabelSays, labelled, unlabelled}
 use Rattle.solver.specs.declared.label.Outcome.{Outcome}
 use Rattle.solver.proofs.Sweep.{usable-inside}
@@ -73,12 +73,15 @@ module _ {h : Head} {t : List ℕ} {before mid : Buffers} {w : Class} (bounded :
   pub all-labelled : w .level ≡ 0 → w .marks ≡ 0 → {after : Buffers} → Lowers h t 0 (h .items) mid after → LabelSays h t before Outcome.Done after
   unfolding part
   all-labelled z e lowers = labelled (record {
-    wanted = λ p s.
-        lowered-end (topOf p) (bookIn p h t) (inside p) (labelsAt p before)
-        (lowers .lowered p s .lowered (labelsAt p before)
-        (lowered-start (topOf p) (bookIn p h t) (inside p) (labelsAt p before) (bounded .tops p s) (settled .greatest p s) (settled .floors .held p s (zeros p))));
+    wanted = λ p s. lowered-end (topOf p) (bookIn p h t) (inside p) (labelsAt p before) (lowers .lowered (λ q. labelsAt q before) start .each p s);
   })
     where
-      zeros : (p : ℕ) → part p w ≡ 0
-      zeros zero = z
-      zeros (suc k) = ap (bit k) e ∙ bit-of-zero k
+      start : LoweredParts h t (λ p. labelsAt p before) 0 mid
+      start = record {
+        each = λ p s.
+            lowered-start (topOf p) (bookIn p h t) (inside p) (labelsAt p before) (bounded .tops p s) (settled .greatest p s) (settled .floors .held p s (zeros p));
+      }
+        where
+          zeros : (p : ℕ) → part p w ≡ 0
+          zeros zero = z
+          zeros (suc k) = ap (bit k) e ∙ bit-of-zero k

@@ -1,4 +1,4 @@
--- What lowering does to labels: in the part that is lowered it takes them from item i to item k, in every other part it leaves them.
+-- What lowering does to labels: an attempt at an item, and the items in turn.
 -- Assumes nothing.
 use mathlib.Core.Path.{_≡_}
 use mathlib.Core.Bool.{Bool, true, false}
@@ -45,46 +45,37 @@ pub record Attemptable (h : Head) (t : List ℕ) (i : ℕ) (b old : Buffers) : T
   pub usable : ItemUsable h t i b
   pub spare : Room (h .items) (old .levels) (old .marks)
 
+-- Each item has the label that it had.
+pub record LabelsStay (h : Head) (before after : Buffers) : Type 0 where
+  pub label : (j : ℕ) → j < h .items → labelsOf after j ≡ labelsOf before j
+
 -- The labels as they were are saved, and with x at item i they are settled. There is still room for both.
 pub record Attempts (h : Head) (t : List ℕ) (i : ℕ) (x : Class) (before after old : Buffers) (w : Class) : Type 0 where
-  pub saved : (j : ℕ) → j < h .items → labelsOf old j ≡ labelsOf before j
+  pub saved : LabelsStay h before old
   pub settled : Settles h t (placedAt i x before) after w
   pub room : Room (h .items) (after .levels) (after .marks)
   pub spare : Room (h .items) (old .levels) (old .marks)
 
 -- In part p, labels lowered up to item i become labels lowered up to item k.
-pub record LowersPart (p : ℕ) (h : Head) (t : List ℕ) (i k : ℕ) (before after : Buffers) : Type 0 where
-  pub lowered : (u : ℕ → ℕ) → Lowered (valuesIn p) (bookIn p h t) u i (labelsAt p before) → Lowered (valuesIn p) (bookIn p h t) u k (labelsAt p after)
-
--- Part p of each label stays.
-pub record PartStays (p : ℕ) (h : Head) (before after : Buffers) : Type 0 where
-  pub stays : (j : ℕ) → j < h .items → labelsAt p after j ≡ labelsAt p before j
-
--- The marks are lowered. The levels stay.
-pub record LowersMarks (h : Head) (t : List ℕ) (i k : ℕ) (before after : Buffers) : Type 0 where
-  pub levels : PartStays 0 h before after
-  pub lowered : (p : ℕ) → p < 64 → LowersPart (suc p) h t i k before after
-
--- Every mark stays.
-pub record MarksStay (h : Head) (before after : Buffers) : Type 0 where
-  pub each : (p : ℕ) → p < 64 → PartStays (suc p) h before after
-
--- The levels are lowered. The marks stay.
-pub record LowersLevel (h : Head) (t : List ℕ) (i k : ℕ) (before after : Buffers) : Type 0 where
-  pub marks : MarksStay h before after
-  pub lowered : LowersPart 0 h t i k before after
+abbrev pub LowersPart : ℕ → Head → List ℕ → ℕ → ℕ → Buffers → Buffers → Type 0
+LowersPart p h t i k before after =
+    (u : ℕ → ℕ) → Lowered (valuesIn p) (bookIn p h t) u i (labelsAt p before) → Lowered (valuesIn p) (bookIn p h t) u k (labelsAt p after)
 
 -- No labelling in the level that is below the labels has less than v at item i.
 abbrev pub NoLevelLess : Head → List ℕ → Buffers → ℕ → ℕ → Type 0
 NoLevelLess h t b i v = NoneLess topLevel (bookIn 0 h t) (labelsAt 0 b) i v
 
--- Level v at item i leaves a labelling, and the labels are lowered to it, if nothing less does; or it leaves none, and the labels stay.
+-- Level v at item i leaves a labelling, and item i is lowered in every part, to level v if nothing less does; or it leaves none, and the labels stay.
 pub record TriesLevel (h : Head) (t : List ℕ) (i v : ℕ) (before after : Buffers) (left : Bool) : Type 0 where
-  pub marks : MarksStay h before after
-  pub lowered : left ≡ true → v ≤ labelsAt 0 before i → NoLevelLess h t before i v → LowersPart 0 h t i (suc i) before after
-  pub stays : left ≡ false → PartStays 0 h before after
+  pub marks : left ≡ true → (p : ℕ) → p < 64 → LowersPart (suc p) h t i (suc i) before after
+  pub level : left ≡ true → NoLevelLess h t before i v → LowersPart 0 h t i (suc i) before after
+  pub stays : left ≡ false → LabelsStay h before after
   pub failed : left ≡ false → NoLevelLess h t before i (suc v)
 
--- In every part, labels lowered up to item i become labels lowered up to item k.
+-- In every part the labels are lowered up to item i, below the bound u.
+pub record LoweredParts (h : Head) (t : List ℕ) (u : ℕ → ℕ → ℕ) (i : ℕ) (b : Buffers) : Type 0 where
+  pub each : (p : ℕ) → p < partCount → Lowered (valuesIn p) (bookIn p h t) (u p) i (labelsAt p b)
+
+-- Labels that are lowered up to item i in every part become labels lowered up to item k.
 pub record Lowers (h : Head) (t : List ℕ) (i k : ℕ) (before after : Buffers) : Type 0 where
-  pub lowered : (p : ℕ) → p < partCount → LowersPart p h t i k before after
+  pub lowered : (u : ℕ → ℕ → ℕ) → LoweredParts h t u i before → LoweredParts h t u k after

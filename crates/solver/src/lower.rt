@@ -1,13 +1,14 @@
-// Lowering: each item in turn gets the least value that still leaves a labelling. All marks of an item are tried together;
-// the level is tried from the lowest up.
+// Lowering: each item in turn gets the least class that still leaves a labelling. The level is tried from the lowest up, all
+// marks with it, and each mark is judged by itself.
 use super::settle::settle;
 use classes::Class;
+use classes::TOP_LEVEL;
 use refusals::MOST_ITEMS;
 use rules::Head;
 ghost use Prim.Native.Nat.{_+_};
 ghost use Rattle.solver.specs.Solving.{held};
 ghost use Rattle.solver.specs.InnerSteps.{Usable};
-ghost use Rattle.solver.specs.InnerLowers.{CopyRoom, Copied, Chosen, ItemUsable, Attemptable, Attempts, LowersMarks, TriesLevel, LowersLevel, Lowers};
+ghost use Rattle.solver.specs.InnerLowers.{CopyRoom, Copied, Chosen, ItemUsable, Attemptable, Attempts, TriesLevel, Lowers};
 
 // The first n words of a slice, written over the first n of another.
 pub(crate) fn copy(from: &[u64], to: &mut [u64], n: usize)
@@ -54,29 +55,8 @@ fn attempt(
     settle(rules, head, levels, marks)
 }
 
-// Lowers the marks of item i: each that can go goes, and the others stay with all labels as they were in that mark.
-fn lower_marks(rules: &[u64], head: Head, i: usize, levels: &mut [u64], marks: &mut [u64])
-    requires { ⌜ ItemUsable head (now rules) i (held (now levels) (now marks)) ⌝ }
-    ensures { λ _. ⌜ LowersMarks head (now (rules .entry)) i (i + 1) (held (now (levels .entry)) (now (marks .entry))) (held (now (levels .exit)) (now (marks .exit))) ⌝ }
-{
-    let mut old_levels = [0u64; MOST_ITEMS];
-    let mut old_marks = [0u64; MOST_ITEMS];
-    let to = Class::new(levels[i], 0);
-    let w = attempt(
-        rules,
-        head,
-        i,
-        to,
-        levels,
-        marks,
-        &mut old_levels,
-        &mut old_marks,
-    );
-    copy(&old_levels, levels, head.items);
-    put_back(&old_marks, w.marks, marks, head.items);
-}
-
-// Tries level v at item i. Answers yes where a labelling is left, with the labels so lowered, and no with the labels as they were.
+// Tries level v at item i, and no marks. Answers yes where a labelling with that level is left: the labels are so lowered, and
+// each mark of item i that can go is gone. Else it answers no, with the labels as they were.
 fn try_level(
     rules: &[u64],
     head: Head,
@@ -90,7 +70,7 @@ fn try_level(
 {
     let mut old_levels = [0u64; MOST_ITEMS];
     let mut old_marks = [0u64; MOST_ITEMS];
-    let to = Class::new(v, marks[i]);
+    let to = Class::new(v, 0);
     let w = attempt(
         rules,
         head,
@@ -101,36 +81,27 @@ fn try_level(
         &mut old_levels,
         &mut old_marks,
     );
-    copy(&old_marks, marks, head.items);
     if w.level == 0 {
+        put_back(&old_marks, w.marks, marks, head.items);
         return true;
     }
     copy(&old_levels, levels, head.items);
+    copy(&old_marks, marks, head.items);
     false
 }
 
-// Lowers the level of item i to the least that leaves a labelling.
-fn lower_level(rules: &[u64], head: Head, i: usize, levels: &mut [u64], marks: &mut [u64])
+// Lowers item i: its level to the least that leaves a labelling, and each of its marks that can go.
+fn lower_item(rules: &[u64], head: Head, i: usize, levels: &mut [u64], marks: &mut [u64])
     requires { ⌜ ItemUsable head (now rules) i (held (now levels) (now marks)) ⌝ }
-    ensures { λ _. ⌜ LowersLevel head (now (rules .entry)) i (i + 1) (held (now (levels .entry)) (now (marks .entry))) (held (now (levels .exit)) (now (marks .exit))) ⌝ }
+    ensures { λ _. ⌜ Lowers head (now (rules .entry)) i (i + 1) (held (now (levels .entry)) (now (marks .entry))) (held (now (levels .exit)) (now (marks .exit))) ⌝ }
 {
-    let most = levels[i];
     let mut v: u64 = 0;
-    while v < most {
+    while v <= TOP_LEVEL {
         if try_level(rules, head, i, v, levels, marks) {
             return;
         }
         v += 1;
     }
-}
-
-// Lowers item i in every part.
-fn lower_item(rules: &[u64], head: Head, i: usize, levels: &mut [u64], marks: &mut [u64])
-    requires { ⌜ ItemUsable head (now rules) i (held (now levels) (now marks)) ⌝ }
-    ensures { λ _. ⌜ Lowers head (now (rules .entry)) i (i + 1) (held (now (levels .entry)) (now (marks .entry))) (held (now (levels .exit)) (now (marks .exit))) ⌝ }
-{
-    lower_marks(rules, head, i, levels, marks);
-    lower_level(rules, head, i, levels, marks);
 }
 
 // Lowers every item in turn.

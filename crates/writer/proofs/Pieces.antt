@@ -1,6 +1,6 @@
 -- Pieces of a text one after the other, and a text that grows by them. They rest on the laws of a text that grows by puts.
 -- Assumes nothing.
-use mathlib.Core.Path.{_≡_, refl, sym, ap, subst, _∙_}
+use mathlib.Core.Path.{_≡_, refl, sym, ap, ap₂, subst, _∙_}
 use mathlib.Core.List.{List, [], _++_, append-assoc, append-nil}
 use Prim.Native.Nat.{ℕ, zero, suc, _+_, _≤_, _<_}
 use native.Mathlib.Numerals.{add-one}
@@ -23,6 +23,26 @@ pieces-none f j = refl
 
 pub pieces-snoc : (f : ℕ → List ℕ) (k : ℕ) → pieces f 0 (k + 1) ≡ pieces f 0 k ++ f k
 pieces-snoc f k = rw add-one (pieces-snoc-from f 0 k ∙ ap (λ (i : ℕ). pieces f 0 k ++ f i) (omega arith))
+
+pub pieces-zero : (f : ℕ → List ℕ) (k c : ℕ) → c ≡ 0 → pieces f k c ≡ []
+pieces-zero f k c e = ap (pieces f k) e ∙ pieces-none f k
+
+pub pieces-one : (f : ℕ → List ℕ) (k : ℕ) → pieces f k 1 ≡ f k
+unfolding pieces
+pieces-one f k = append-nil (f k)
+
+pub pieces-first : (f : ℕ → List ℕ) (k c : ℕ) → pieces f k (suc c) ≡ f k ++ pieces f (suc k) c
+unfolding pieces
+pieces-first f k c = refl
+
+pub pieces-same : (f g : ℕ → List ℕ) (k c : ℕ) → ((j : ℕ) → j < k + c → f j ≡ g j) → pieces f k c ≡ pieces g k c
+unfolding pieces
+pieces-same f g k zero h = refl
+pieces-same f g k (suc c) h = ap₂ _++_ (h k (omega arith)) (pieces-same f g (suc k) c (λ j s. h j (omega arith)))
+
+-- One piece more where the pieces before it are the same.
+pub pieces-grown : (f g : ℕ → List ℕ) (c : ℕ) (y : List ℕ) → ((j : ℕ) → j < c → g j ≡ f j) → g c ≡ y → pieces g 0 (c + 1) ≡ pieces f 0 c ++ y
+pieces-grown f g c y same here = pieces-snoc g c ∙ ap₂ _++_ (pieces-same g f 0 c (λ j s. same j (omega arith))) here
 
 -- From the place r₀ of the buffer d₀ on a text has grown by k of n pieces.
 pub record GrownBy (f : ℕ → List ℕ) (n : ℕ) (d₀ : List ℕ) (r₀ k : ℕ) (d : List ℕ) (r : ℕ) : Type 0 where

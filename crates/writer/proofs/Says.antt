@@ -1,16 +1,14 @@
 -- What writing answers, one law for each answer that the code can give. They rest on the laws of growing text and of what a put leaves in a
 -- buffer.
 -- Assumes nothing.
-use mathlib.Core.Path.{_≡_, sym, ap, subst, _∙_}
+use mathlib.Core.Path.{_≡_, sym}
 use mathlib.Core.Bool.{Bool, true, false, not}
 use mathlib.Core.List.{List, [], _∷_}
-use Prim.Native.Nat.{ℕ, _+_, _≤_, _<_}
-use native.Mathlib.Decide.{decLe}
+use Prim.Native.Nat.{ℕ, _≤_, _<_}
 use native.Mathlib.Omega.{arith}
 use lib.ListN.{length, take, replicate, length-replicate}
 use lib.Seq.{length-take-le}
 use Rattle.laws.specs.First.{Sought}
-use Rattle.laws.specs.Over.{over}
 use Rattle.laws.specs.Tells.{Tells}
 use Rattle.laws.proofs.Tells.{told-no, told-yes}
 use Rattle.refusals.specs.Said.{Said, success, refusedBy}
@@ -23,8 +21,8 @@ use Rattle.accepts.specs.Accepted.{TableAccepted}
 use Rattle.accepts.specs.Tables.{Tables}
 use Rattle.puts.specs.Writing.{Put}
 use Rattle.puts.specs.InnerGrowing.{Grown, Front}
-use Rattle.puts.proofs.Placed.{put-buffer, put-next, put-untouched, put-full, put-sized}
-use Rattle.puts.proofs.Growing.{grown-front, grown-over}
+use Rattle.puts.proofs.Placed.{put-buffer, put-untouched, put-sized}
+use Rattle.puts.proofs.Growing.{put-grown, grown-front, grown-over}
 use Rattle.writer.specs.Texts.{bookText, labelsText}
 use Rattle.writer.specs.Writing.{WriteSays, bad-table, too-long, no-room, written}
 use Rattle.writer.specs.Writing.{LabelsSays, bad-items, few-labels, bad-label, short-buffer, labelled}
@@ -40,27 +38,15 @@ blank-size = length-replicate {A = ℕ} mostText 0
 -- A text copied to the front of a buffer: p is the place that the put answered.
 module _ {x out out′ : List ℕ} {p : ℕ} (put : Put out 0 x out′ p) where
   pub says-roomless : length out′ < p → {s : Said} → s ≡ refusedBy Fault.NoRoom 0 → CopySays x out s out′
-  says-roomless h e = rw (e, put-untouched put none) (roomless (omega (arith, none)))
-    where
-      cases : Dec (0 + length x ≤ length out) → length out < 0 + length x
-      cases (yes room) = absurd (omega (arith, put-next put room, put-sized put))
-      cases (no room) = omega arith
-
-      none : length out < 0 + length x
-      none = cases (decLe (0 + length x) (length out))
+  says-roomless h e =
+      let none : length out < length x = grown-over (put-grown put) (omega (arith, put-sized put)) in
+      rw (e, put-untouched put (omega arith)) (roomless none)
 
   pub says-there : p ≤ length out′ → CopySays x out (success 0 (p ∷ [])) out′
-  says-there h = rw (put-buffer put room, len) (copied (omega (arith, room)))
-    where
-      cases : Dec (0 + length x ≤ length out) → 0 + length x ≤ length out
-      cases (yes room) = room
-      cases (no room) = absurd (omega (arith, put-full put (omega arith), put-sized put))
-
-      room : 0 + length x ≤ length out
-      room = cases (decLe (0 + length x) (length out))
-
-      len : p ≡ length x
-      len = omega (arith, put-next put room)
+  says-there h =
+      let len : p ≡ length x = grown-front (put-grown put) (omega (arith, put-sized put)) .len in
+      let room : length x ≤ length out = omega (arith, put-sized put) in
+      rw (put-buffer put (omega arith), len) (copied room)
 
 -- What writing a rulebook answers.
 module _ {h : Head} {t w : List ℕ} where
@@ -78,7 +64,7 @@ module _ {h : Head} {t w : List ℕ} where
 
     module _ {d : List ℕ} {r : ℕ} (g : Grown blank 0 (bookText h t w) d r) where
       pub says-too-long : mostText < r → {out : List ℕ} {s : Said} → s ≡ refusedBy Fault.TooLong 0 → WriteSays h t w out s out
-      says-too-long over e = rw e (too-long tables-right (omega (arith, grown-over g (omega (arith, blank-size)), blank-size)))
+      says-too-long longer e = rw e (too-long tables-right (omega (arith, grown-over g (omega (arith, blank-size)), blank-size)))
 
       pub text-count : r ≤ mostText → r ≡ length (take r d)
       text-count fits = sym (length-take-le r d (omega (arith, g .sized, blank-size)))

@@ -15,3 +15,4 @@ pub mod Checking
 pub mod Reading
 pub mod Writing
 pub mod Assigning
+pub mod Answering

@@ -1,6 +1,6 @@
 -- `count_line` meets its contract, piece by piece. Assumes nothing.
 use borrow.Author.Needs.{needs}
-use Rattle.answers.proofs.Putting.{line-put}
+use Rattle.answers.proofs.Says.{line-grown}
 use Rattle.answers.proofs.count_line.Statement.{statement}
 use Rattle.answers.proofs.count_line.Tie as tie
 
@@ -20,7 +20,7 @@ same-length : tie.Need-same-length
 same-length c = search needs
 
 returns : tie.Need-returns
-returns c = line-put _ (c .before .before .before .before .before .before .before .before .before .before .before .before .before .before .before .pre) (c .before .before .before .before .before .before .before .before .before .before .before .put .ensures) (c .before .before .before .before .before .before .before .put-count .ensures) (c .before .before .put2 .ensures)
+returns c = search (line-grown, needs)
 
 pub count-line-spec : {M : Type 1} → statement M
 count-line-spec =

@@ -10,26 +10,23 @@ write-labels-requires c κs = search needs
 enum-known-len : tie.Need-enum-known-len
 enum-known-len c = search needs
 
-enum-known-fault : tie.Need-enum-known-fault
-enum-known-fault c = search needs
+enum-known-refusal : tie.Need-enum-known-refusal
+enum-known-refusal c = search needs
 
-fault-number-requires : tie.Need-fault-number-requires
-fault-number-requires c κs = search needs
-
-refusal-requires : tie.Need-refusal-requires
-refusal-requires c κs = absurd (labels-never-refused (c .before .before .before .before .before .before .before .before .before .before .before .before .before .pre) (c .before .before .before .before .before .before .before .write-labels .ensures) (c .before .before .before .fault .given .1))
+refusal-text-requires : tie.Need-refusal-text-requires
+refusal-text-requires c κs = search needs
 
 same-length : tie.Need-same-length
 same-length c = search needs
 
 returns : tie.Need-returns
-returns c = labels-written (c .before .before .before .before .before .before .before .before .before .before .before .pre) (c .before .before .before .before .before .write-labels .ensures) (c .before .len .given .1)
+returns c = search (labels-written, needs)
 
 same-length-2 : tie.Need-same-length-2
 same-length-2 c = search needs
 
 returns-2 : tie.Need-returns-2
-returns-2 c = absurd (labels-never-refused (c .before .before .before .before .before .before .before .before .before .before .before .before .before .before .before .before .pre) (c .before .before .before .before .before .before .before .before .before .before .write-labels .ensures) (c .before .before .before .before .before .before .fault .given .1))
+returns-2 c = absurd (search (labels-never-refused, needs))
 
 pub labels-text-spec : {M : Type 1} → statement M
 labels-text-spec =
@@ -37,9 +34,8 @@ labels-text-spec =
     (tie.spec
     write-labels-requires
     enum-known-len
-    enum-known-fault
-    fault-number-requires
-    refusal-requires
+    enum-known-refusal
+    refusal-text-requires
     same-length
     returns
     same-length-2

@@ -1,66 +1,69 @@
--- `make` meets its contract, one law for each answer of reading. Assumes nothing.
-use mathlib.Core.Path.{refl}
+-- `make` meets its contract. Assumes nothing.
 use borrow.Author.Needs.{needs}
-use Rattle.answers.proofs.Says.{book-ready, answer-book, answer-refused}
+use Rattle.answers.proofs.Says.{labels-ready, answer-labelled, answer-refused}
 use Rattle.answers.proofs.make.Statement.{statement}
 use Rattle.answers.proofs.make.Tie as tie
 
-slice-aggregate-read : tie.Need-slice-aggregate-read
-slice-aggregate-read c = search needs
+slice-aggregate-assign : tie.Need-slice-aggregate-assign
+slice-aggregate-assign c = search needs
 
-slice-aggregate-read-2 : tie.Need-slice-aggregate-read-2
-slice-aggregate-read-2 c = search needs
+slice-aggregate-assign-2 : tie.Need-slice-aggregate-assign-2
+slice-aggregate-assign-2 c = search needs
 
-read-requires : tie.Need-read-requires
-read-requires c κs = search needs
+slice-aggregate-assign-3 : tie.Need-slice-aggregate-assign-3
+slice-aggregate-assign-3 c = search needs
 
-enum-known-n : tie.Need-enum-known-n
-enum-known-n c = search needs
+assign-requires : tie.Need-assign-requires
+assign-requires c κs = search needs
 
-slice-aggregate-label : tie.Need-slice-aggregate-label
-slice-aggregate-label c = search needs
+enum-known-head : tie.Need-enum-known-head
+enum-known-head c = search needs
 
-slice-aggregate-label-2 : tie.Need-slice-aggregate-label-2
-slice-aggregate-label-2 c = search needs
+slice-aggregate-labels-text : tie.Need-slice-aggregate-labels-text
+slice-aggregate-labels-text c = search needs
 
-label-requires : tie.Need-label-requires
-label-requires c κs = book-ready (c .before .before .before .before .before .before .before .before .read .ensures) (c .before .before .before .before .n .given .1) (c .before .before .before .before .before .before .before .before .before .before .before .before .before .pre)
+slice-aggregate-labels-text-2 : tie.Need-slice-aggregate-labels-text-2
+slice-aggregate-labels-text-2 c = search needs
 
-enum-known-fault : tie.Need-enum-known-fault
-enum-known-fault c = search needs
+slice-aggregate-labels-text-3 : tie.Need-slice-aggregate-labels-text-3
+slice-aggregate-labels-text-3 c = search needs
 
-fault-number-requires : tie.Need-fault-number-requires
-fault-number-requires c κs = search needs
+labels-text-requires : tie.Need-labels-text-requires
+labels-text-requires c κs = search (labels-ready, needs)
 
-refusal-requires : tie.Need-refusal-requires
-refusal-requires c κs = search needs
+enum-known-refusal : tie.Need-enum-known-refusal
+enum-known-refusal c = search needs
+
+refusal-text-requires : tie.Need-refusal-text-requires
+refusal-text-requires c κs = search needs
 
 same-length : tie.Need-same-length
 same-length c = search needs
 
 returns : tie.Need-returns
-returns c = answer-book (c .before .before .before .before .before .before .before .before .before .before .before .read .ensures) refl refl (c .before .before .before .before .before .before .before .n .given .1) (c .before .before .label .ensures)
+returns c = search (answer-labelled, needs)
 
 same-length-2 : tie.Need-same-length-2
 same-length-2 c = search needs
 
 returns-2 : tie.Need-returns-2
-returns-2 c = answer-refused (c .before .before .before .before .before .before .before .before .before .before .read .ensures) refl refl (c .before .before .before .before .before .before .fault .given .1) (c .before .before .before .before .fault-number .ensures) (c .before .before .refusal .ensures)
+returns-2 c = search (answer-refused, needs)
 
 pub make-spec : {M : Type 1} → statement M
 make-spec =
     tie.close
     (tie.spec
-    slice-aggregate-read
-    slice-aggregate-read-2
-    read-requires
-    enum-known-n
-    slice-aggregate-label
-    slice-aggregate-label-2
-    label-requires
-    enum-known-fault
-    fault-number-requires
-    refusal-requires
+    slice-aggregate-assign
+    slice-aggregate-assign-2
+    slice-aggregate-assign-3
+    assign-requires
+    enum-known-head
+    slice-aggregate-labels-text
+    slice-aggregate-labels-text-2
+    slice-aggregate-labels-text-3
+    labels-text-requires
+    enum-known-refusal
+    refusal-text-requires
     same-length
     returns
     same-length-2

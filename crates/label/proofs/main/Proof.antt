@@ -1,5 +1,6 @@
 -- `main` meets its contract. Assumes nothing.
 use mathlib.Core.Path.{sym}
+use native.Mathlib.Omega.{arith}
 use lib.Seq.{length-take-le}
 use borrow.Author.Needs.{needs}
 use Rattle.answers.proofs.Short.{answer-within}
@@ -34,10 +35,10 @@ returns : tie.Need-returns
 returns c = search needs
 
 array-share-prefix-out : tie.Need-array-share-prefix-out
-array-share-prefix-out c = answer-within (c .before .before .before .before .answer .ensures) (c .before .len .given .1)
+array-share-prefix-out c = answer-within (c .before .before .before .before .answer .ensures) (omega arith) (c .before .len .given .1)
 
 slice-aggregate-write-all : tie.Need-slice-aggregate-write-all
-slice-aggregate-write-all c = sym (length-take-le _ _ (answer-within (c .before .before .before .before .before .answer .ensures) (c .before .before .len .given .1)))
+slice-aggregate-write-all c = sym (length-take-le _ _ (answer-within (c .before .before .before .before .before .answer .ensures) (omega arith) (c .before .before .len .given .1)))
 
 write-all-requires : tie.Need-write-all-requires
 write-all-requires c κs = search needs

@@ -1,5 +1,4 @@
 -- `put` meets its contract. The loop's invariant: there is room, and i bytes are copied. The measure is what is left of them. Assumes nothing.
-use mathlib.Core.Path.{refl}
 use Prim.Native.Nat.{_-_}
 use lib.ListN.{length}
 use borrow.Author.Needs.{needs}

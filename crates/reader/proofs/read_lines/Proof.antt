@@ -1,9 +1,8 @@
 -- `read_lines` meets its contract. Assumes nothing.
-use mathlib.Core.Path.{sym, _∙_}
 use Prim.Native.Nat.{_-_}
 use lib.ListN.{length}
 use borrow.Author.Needs.{needs}
-use Rattle.reader.proofs.Whole.{Reading, names-length, words-length, reading-none, reading-stop, reading-fits, reading-less, reading-on}
+use Rattle.reader.proofs.Whole.{Reading, names-kept, words-kept, reading-none, reading-stop, reading-fits, reading-less, reading-on}
 use Rattle.reader.proofs.read_lines.Statement.{statement}
 use Rattle.reader.proofs.read_lines.Tie as tie
 
@@ -35,10 +34,10 @@ enum-known-answer : tie.Need-enum-known-answer Inv-loop μ-loop
 enum-known-answer c = search needs
 
 same-length : tie.Need-same-length Inv-loop μ-loop
-same-length c = c .before .before .before .before .before .before .before .step .kept .1 .1 .1 .0 ∙ c .before .before .before .before .before .before .before .before .before .before .loop .inv .ready .names-room ∙ sym (names-length (c .before .before .before .before .before .before .before .before .before .before .before .before .before .before .pre))
+same-length c = search (names-kept, needs)
 
 same-length-2 : tie.Need-same-length-2 Inv-loop μ-loop
-same-length-2 c = c .before .before .before .before .before .before .before .step .kept .1 .1 .1 .1 .0 ∙ c .before .before .before .before .before .before .before .before .before .before .loop .inv .ready .words-room ∙ sym (words-length (c .before .before .before .before .before .before .before .before .before .before .before .before .before .before .pre))
+same-length-2 c = search (words-kept, needs)
 
 returns : tie.Need-returns Inv-loop μ-loop
 returns c = search (reading-stop, needs)

@@ -1,5 +1,5 @@
 -- `step` meets its contract. Assumes nothing.
-use Rattle.reader.proofs.Turns.{line-short, line-ready, item-ready, rule-ready, step-none, step-syntax, step-order, step-form, step-item, step-cap, step-floor, step-follow, step-end}
+use Rattle.reader.proofs.Turns.{form-counts, line-ready, item-ready, rule-ready, step-none, step-syntax, step-order, step-form, step-item, step-rule, step-end}
 use borrow.Author.Needs.{needs}
 use Rattle.reader.proofs.line.step.Statement.{statement}
 use Rattle.reader.proofs.line.step.Tie as tie
@@ -40,11 +40,8 @@ returns-3 c = search (step-order, needs)
 enum-told-2 : tie.Need-enum-told-2
 enum-told-2 c = search needs
 
-next-requires : tie.Need-next-requires
-next-requires c κs = search needs
-
-line-len-requires : tie.Need-line-len-requires
-line-len-requires c κs = line-short {at = c .before .before .before .before .before .before .before .before .before .before .before .before .before .before .args .at} (line-ready (c .before .before .before .before .before .before .before .before .before .before .before .before .before .before .pre) (c .before .before .before .before .before .before .before .before .before .read-line .ensures) (c .before .before .before .before .before .before .before .line .given .1))
+went-requires : tie.Need-went-requires
+went-requires c κs = search (form-counts, needs)
 
 enum-told-3 : tie.Need-enum-told-3
 enum-told-3 c = search needs
@@ -52,26 +49,11 @@ enum-told-3 c = search needs
 item-step-requires : tie.Need-item-step-requires
 item-step-requires c κs = search (item-ready, needs)
 
-enum-told-4 : tie.Need-enum-told-4
-enum-told-4 c = search needs
-
 rule-step-requires : tie.Need-rule-step-requires
 rule-step-requires c κs = search (rule-ready, needs)
 
-enum-told-5 : tie.Need-enum-told-5
-enum-told-5 c = search needs
-
-rule-step-requires-2 : tie.Need-rule-step-requires-2
-rule-step-requires-2 c κs = search (rule-ready, needs)
-
-enum-told-6 : tie.Need-enum-told-6
-enum-told-6 c = search needs
-
-rule-step-requires-3 : tie.Need-rule-step-requires-3
-rule-step-requires-3 c κs = search (rule-ready, needs)
-
-enum-told-7 : tie.Need-enum-told-7
-enum-told-7 c = search needs
+enum-told-4 : tie.Need-enum-told-4
+enum-told-4 c = search needs
 
 end-step-requires : tie.Need-end-step-requires
 end-step-requires c κs = search (line-ready, needs)
@@ -92,28 +74,10 @@ same-length-3 : tie.Need-same-length-3
 same-length-3 c = search needs
 
 returns-6 : tie.Need-returns-6
-returns-6 c = search (step-cap, needs)
-
-same-length-4 : tie.Need-same-length-4
-same-length-4 c = search needs
-
-same-length-5 : tie.Need-same-length-5
-same-length-5 c = search needs
+returns-6 c = search (step-rule, needs)
 
 returns-7 : tie.Need-returns-7
-returns-7 c = search (step-floor, needs)
-
-same-length-6 : tie.Need-same-length-6
-same-length-6 c = search needs
-
-same-length-7 : tie.Need-same-length-7
-same-length-7 c = search needs
-
-returns-8 : tie.Need-returns-8
-returns-8 c = search (step-follow, needs)
-
-returns-9 : tie.Need-returns-9
-returns-9 c = search (step-end, needs)
+returns-7 c = search (step-end, needs)
 
 pub step-spec : {M : Type 1} → statement M
 step-spec =
@@ -131,17 +95,11 @@ step-spec =
     stopped-requires-3
     returns-3
     enum-told-2
-    next-requires
-    line-len-requires
+    went-requires
     enum-told-3
     item-step-requires
-    enum-told-4
     rule-step-requires
-    enum-told-5
-    rule-step-requires-2
-    enum-told-6
-    rule-step-requires-3
-    enum-told-7
+    enum-told-4
     end-step-requires
     returns-4
     same-length
@@ -149,10 +107,4 @@ step-spec =
     same-length-2
     same-length-3
     returns-6
-    same-length-4
-    same-length-5
-    returns-7
-    same-length-6
-    same-length-7
-    returns-8
-    returns-9)
+    returns-7)

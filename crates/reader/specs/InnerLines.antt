@@ -1,25 +1,23 @@
--- What the inner functions need and give: the state that counts and tables are, and the turn that an answer is.
+-- What the functions that read lines need and give: the state that counts and tables are, and the turn that an answer is.
 -- Assumes nothing.
 use mathlib.Core.Path.{_≡_}
-use mathlib.Core.Bool.{Bool, true}
 use mathlib.Core.List.{List}
 use Prim.Native.Nat.{ℕ, _*_, _≤_}
 use lib.ListN.{length, drop}
-use Rattle.refusals.specs.Sizes.{mostText, mostItems, mostRules, mostLeft}
+use Rattle.refusals.specs.Sizes.{mostText, mostItems, mostRules}
+use Rattle.refusals.specs.declared.Fault.{Fault}
 use Rattle.items.specs.Names.{nameRoom}
 use Rattle.rules.specs.Table.{ruleWords}
+use Rattle.rules.specs.declared.Head.{Head}
 use Rattle.keys.specs.declared.Key.{Key}
-use Rattle.laws.specs.Over.{over}
-use Rattle.lines.specs.Lines.{lineAt}
+use Rattle.lines.specs.Lines.{lineAt, lineLen}
 use Rattle.lines.specs.declared.Line.{Line}
 use Rattle.lines.specs.declared.ReadLine.{ReadLine}
-use Rattle.refusals.specs.declared.Fault.{Fault}
 use Rattle.reader.specs.declared.ReadBook.{ReadBook}
 use Rattle.reader.specs.declared.line.Counts.{Counts}
 use Rattle.reader.specs.declared.line.Stepped.{Stepped}
-use Rattle.reader.specs.Names.{everyItem, numbersOf}
-use Rattle.reader.specs.Lines.{State, Turn, on, stop, refusedAt, emptyNames, emptyWords, itemStep, endStep}
-use Rattle.reader.specs.Reading.{readText}
+use Rattle.reader.specs.Lines.{State, Turn, on, stop, refusedAt, emptyNames, emptyWords, counted, itemStep, ruleStep, endStep}
+use Rattle.reader.specs.Reading.{readText, fitted, itemsAfter, rulesAfter}
 
 abbrev pub stateOf : Counts → List ℕ → List ℕ → State
 stateOf c names words = record { counts = c; names = names; words = words }
@@ -45,8 +43,27 @@ pub record StartsEmpty (l names words : List ℕ) : Type 0 where
 pub record Gives (l : List ℕ) (a : ReadBook) (names words : List ℕ) : Type 0 where
   pub result : readText l ≡ record { answer = a; names = names; words = words }
 
+-- The tables hold so many items and rules.
+pub record Holds (h : Head) (names words : List ℕ) : Type 0 where
+  pub items : h .items * nameRoom ≤ length names
+  pub rules : h .rules * ruleWords ≤ length words
+
+-- A book's tables copied to lent ones, which held `items` and `rules`.
+pub record CopiedOut (h : Head) (names words items rules : List ℕ) (r : ReadBook) (items′ rules′ : List ℕ) : Type 0 where
+  pub answer : r ≡ fitted (length items) (length rules) (ReadBook.Book h)
+  pub items-after : items′ ≡ itemsAfter r names items
+  pub rules-after : rules′ ≡ rulesAfter r words rules
+
 abbrev pub stopsAt : Fault → ℕ → Stepped
 stopsAt f line = Stepped.Stop (refusedAt f line)
+
+abbrev pub wentOn : Counts → Line → ℕ → ℕ → Stepped
+wentOn c x n m = Stepped.On (counted c (x .key) n m) (lineLen x)
+
+-- One line more can be counted, and the line's length.
+pub record Counting (c : Counts) (x : Line) : Type 0 where
+  pub lines : c .lines ≤ mostText
+  pub short : lineLen x ≤ mostText
 
 -- The line stands at a place of a text that is not too long.
 pub record LineReady (l : List ℕ) (at : ℕ) (x : Line) (c : Counts) : Type 0 where
@@ -65,21 +82,12 @@ pub record RuleReady (l : List ℕ) (at : ℕ) (x : Line) (c : Counts) (words : 
   pub line : LineReady l at x c
   pub room : length words ≡ mostRules * ruleWords
 
--- There is room for the items of the left names, and places in the text can be counted.
-pub record LookReady (l : List ℕ) (at count : ℕ) (left : List ℕ) : Type 0 where
-  pub text : length l ≤ mostText
-  pub place : at ≤ mostText
-  pub few : count ≤ mostLeft
-  pub room : length left ≡ mostLeft
-
--- Looking up c left names in a table of n items: whether each is one, and then their items at the front of the left places.
-pub record LooksUp (t : List ℕ) (n c : ℕ) (l left : List ℕ) (r : Bool) (left′ : List ℕ) : Type 0 where
-  pub told : r ≡ everyItem t n c l
-  pub items : r ≡ true → left′ ≡ over left 0 (numbersOf t n c l)
-
--- An item's line and the end line leave the other tables as they are.
+-- A rule's line and an item's line each leave the other table as it is, and the end line both.
 pub record ItemStepped (c : Counts) (names l : List ℕ) (x : Line) (r : Stepped) (names′ : List ℕ) : Type 0 where
   pub turn : (words : List ℕ) → turnOf r names′ words ≡ itemStep (stateOf c names words) l x
+
+pub record RuleStepped (c : Counts) (names words l : List ℕ) (x : Line) (r : Stepped) (words′ : List ℕ) : Type 0 where
+  pub turn : turnOf r names words′ ≡ ruleStep (stateOf c names words) l x
 
 pub record EndStepped (c : Counts) (l : List ℕ) (x : Line) (r : Stepped) : Type 0 where
   pub turn : (names words : List ℕ) → turnOf r names words ≡ endStep (stateOf c names words) l x
