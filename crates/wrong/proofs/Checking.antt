@@ -45,6 +45,13 @@ module _ {A : Type 0} {h : Head} {at : ℕ → Rule} {levels marks : List ℕ} w
   said-no-room (first-unmet x) e = let z : _≡_ {A = ℕ} 0 1 = cc in absurd (omega arith)
   said-no-room (all-met x) e = let z : _≡_ {A = ℕ} 0 1 = cc in absurd (omega arith)
 
+  said-bad-label : {s : Said} {i : ℕ} → CheckSays A h at levels marks s → s ≡ refused 12 i → BadAt A h at levels marks i
+  said-bad-label (bad-table x) e = let z : _≡_ {A = ℕ} 10 12 = cc in absurd (omega arith)
+  said-bad-label (no-room x) e = let z : _≡_ {A = ℕ} 11 12 = cc in absurd (omega arith)
+  said-bad-label {i = i} (bad-label {i = j} x) e = let same : j ≡ i = cc in rw same at x
+  said-bad-label (first-unmet x) e = let z : _≡_ {A = ℕ} 0 1 = cc in absurd (omega arith)
+  said-bad-label (all-met x) e = let z : _≡_ {A = ℕ} 0 1 = cc in absurd (omega arith)
+
 -- `check`, of a flat table.
 abbrev Says : Head → List ℕ → List ℕ → List ℕ → Checked → Type 0
 Says h t levels marks a = CheckSays (TableAccepted h t) h (ruleAt t) levels marks (saidChecked a)
@@ -53,6 +60,11 @@ Says h t levels marks a = CheckSays (TableAccepted h t) h (ruleAt t) levels mark
 pub check-answers-no-room-of-a-bad-table
     : (t levels marks : List ℕ) → Says (head 1 1025) t levels marks (Checked.Refused (record { fault = Fault.NoRoom; place = 0 })) → ⊥
 check-answers-no-room-of-a-bad-table t levels marks x = let z : 1025 ≤ 1024 = said-no-room x refl .accepted .accepted .rules in omega arith
+
+-- Two labels of level 16.
+pub check-answers-a-later-bad-label
+    : (t marks : List ℕ) → Says (head 2 0) t (16 ∷ 16 ∷ []) marks (Checked.Refused (record { fault = Fault.BadLabel; place = 1 })) → ⊥
+check-answers-a-later-bad-label t marks x = let z : 16 ≤ 15 = said-bad-label x refl .label .before .each 0 (omega arith) .most in omega arith
 
 -- A cap of item 0 at level 1, and a label of level 2.
 abbrev capped : List ℕ
