@@ -1,6 +1,6 @@
 -- Wrong answers of `accepts`.
 -- Assumes nothing.
-use mathlib.Core.Path.{_≡_, refl}
+use mathlib.Core.Path.{refl}
 use mathlib.Core.Bool.{true, false}
 use mathlib.Core.List.{List, [], _∷_}
 use Prim.Native.Nat.{ℕ, _≤_, _<_}
@@ -9,7 +9,6 @@ use native.Mathlib.Omega.{arith}
 use lib.ListN.{replicate}
 use Rattle.laws.specs.Tells.{Tells}
 use Rattle.classes.specs.Class.{classOf, lowest}
-use Rattle.rules.specs.declared.Rule.{Rule}
 use Rattle.rules.specs.Table.{wordAt, ruleAt}
 use Rattle.accepts.specs.Accepted.{RuleAccepted, TableAccepted}
 use Rattle.wrong.specs.Example.{head}

@@ -9,7 +9,7 @@ use Rattle.laws.specs.Over.{over}
 use Rattle.refusals.specs.declared.Fault.{Fault}
 use Rattle.refusals.specs.declared.Refusal.{Refusal}
 use Rattle.tokens.specs.Numbers.{digit, digitsOf, decimalLen}
-use Rattle.reader.specs.Reading.{readFrom, readWhole}
+use Rattle.reader.specs.Reading.{readFrom}
 use Rattle.writer.specs.declared.Written.{Written}
 use Rattle.writer.specs.Writing.{saidWritten}
 use Rattle.answers.specs.Answering.{refusalText, AnswerSays, unread, RoutineSays, no-room, written}

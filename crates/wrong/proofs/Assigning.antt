@@ -1,15 +1,14 @@
 -- Wrong answers of `assign`.
 -- Assumes nothing.
 use mathlib.Core.Path.{_≡_, refl, ap}
-use mathlib.Core.List.{List, [], _∷_}
+use mathlib.Core.List.{[], _∷_}
 use Prim.Native.Nat.{ℕ}
 use native.Mathlib.Omega.{arith}
 use lib.ListN.{getD}
 use Rattle.refusals.specs.declared.Fault.{Fault}
-use Rattle.refusals.specs.Said.{Said, success, refused}
+use Rattle.refusals.specs.Said.{refused}
 use Rattle.rules.specs.declared.Head.{Head}
-use Rattle.reader.specs.Lines.{refusedAt}
-use Rattle.reader.specs.Reading.{readFrom, readWhole}
+use Rattle.reader.specs.Reading.{readFrom}
 use Rattle.solver.specs.Solving.{Buffers}
 use Rattle.assign.specs.declared.Assigned.{Assigned}
 use Rattle.assign.specs.Assigning.{saidAssigned, Lent, lent, AssignSays, unread}

@@ -2,15 +2,13 @@
 -- Assumes nothing.
 use mathlib.Core.Path.{_≡_, refl}
 use mathlib.Core.List.{List, [], _∷_, _++_}
-use Prim.Native.Nat.{ℕ, _≤_, _<_}
+use Prim.Native.Nat.{ℕ, _≤_}
 use native.Mathlib.Omega.{arith}
 use lib.ListN.{replicate}
-use Rattle.laws.specs.First.{AllBelow, FirstFailing}
 use Rattle.classes.specs.Bits.{bit, word}
-use Rattle.classes.specs.Class.{classOf, Covers, joined, lowest}
+use Rattle.classes.specs.Class.{joined}
 use Rattle.refusals.specs.declared.Fault.{Fault}
-use Rattle.refusals.specs.declared.Refusal.{Refusal}
-use Rattle.refusals.specs.Said.{Said, success, refused, refusedBy}
+use Rattle.refusals.specs.Said.{Said, success, refused}
 use Rattle.rules.specs.declared.Head.{Head}
 use Rattle.rules.specs.declared.Rule.{Rule}
 use Rattle.rules.specs.Record.{meaningOf}
@@ -18,7 +16,7 @@ use Rattle.rules.specs.Table.{wordAt, ruleAt}
 use Rattle.accepts.specs.Accepted.{TableAccepted}
 use Rattle.checker.specs.declared.Checked.{Checked}
 use Rattle.checker.specs.Answer.{saidChecked}
-use Rattle.checker.specs.Checking.{RuleMet, Roomless, BadAt, UnmetAt, AllMet, CheckSays, bad-table, no-room, bad-label, first-unmet, all-met}
+use Rattle.checker.specs.Checking.{Roomless, BadAt, UnmetAt, AllMet, CheckSays, bad-table, no-room, bad-label, first-unmet, all-met}
 use Rattle.checker.specs.List.{listAt, ListAccepted}
 use Rattle.wrong.specs.Example.{head}
 

@@ -6,7 +6,7 @@ use Prim.Native.Nat.{ℕ}
 use native.Mathlib.Nat.{le-refl}
 use native.Mathlib.Omega.{arith}
 use Rattle.laws.specs.Tells.{Tells}
-use Rattle.classes.specs.Bits.{bit, word, LowestOne}
+use Rattle.classes.specs.Bits.{bit, LowestOne}
 use Rattle.classes.specs.Class.{classOf, Covers, HasMark, joined, commonOf, lowest, highest}
 use Rattle.classes.specs.declared.Class.{Class}
 

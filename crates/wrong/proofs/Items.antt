@@ -11,7 +11,7 @@ use Rattle.laws.specs.Tells.{Tells}
 use Rattle.laws.specs.Every.{everyBelow}
 use Rattle.laws.specs.Search.{firstBelow}
 use Rattle.scans.specs.Bytes.{nameByte}
-use Rattle.refusals.specs.Said.{Said, success, refused}
+use Rattle.refusals.specs.Said.{success, refused}
 use Rattle.items.specs.Names.{nameBytes, isName}
 use Rattle.items.specs.Table.{tableFits, entryByte, nameLen, NameAt, ItemsOk}
 use Rattle.items.specs.Lookup.{saidFound, sameName, lookUp, findIn, FindSays}

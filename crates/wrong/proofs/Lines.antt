@@ -13,7 +13,6 @@ use Rattle.tokens.specs.Tokens.{nameOfRun}
 use Rattle.lines.specs.Lines.{lineAt}
 use Rattle.lines.specs.Values.{withClass}
 use Rattle.lines.specs.declared.value.Value.{Value}
-use Rattle.lines.specs.declared.Line.{Line}
 use Rattle.lines.specs.declared.ReadLine.{ReadLine}
 
 -- A line with its key, the length of the key and its value.

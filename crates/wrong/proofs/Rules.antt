@@ -1,7 +1,7 @@
 -- Wrong answers of `rules`.
 -- Assumes nothing.
-use mathlib.Core.Path.{_≡_, refl, ap}
-use mathlib.Core.Bool.{Bool, true, false, true≢false}
+use mathlib.Core.Path.{_≡_, ap}
+use mathlib.Core.Bool.{true, false, true≢false}
 use mathlib.Core.List.{List, [], _∷_}
 use Prim.Native.Nat.{ℕ}
 use native.Mathlib.Omega.{arith}
@@ -13,7 +13,7 @@ use Rattle.meaning.specs.Classes.{classes}
 use Rattle.labels.specs.Labels.{labelsIn}
 use Rattle.rules.specs.declared.Rule.{Rule}
 use Rattle.rules.specs.Record.{leftOf}
-use Rattle.rules.specs.Table.{wordAt, ruleAt, wordsOf, WordsPut, RulePut}
+use Rattle.rules.specs.Table.{wordAt, ruleAt, WordsPut, RulePut}
 
 -- A floor of two left names, without a class.
 abbrev floorOf : ℕ → ℕ → Rule

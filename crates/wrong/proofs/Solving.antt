@@ -12,7 +12,7 @@ use Rattle.classes.specs.Class.{IsClass, joined, lowest}
 use Rattle.classes.specs.Parts.{part}
 use Rattle.classes.specs.declared.Class.{Class}
 use Rattle.refusals.specs.declared.Fault.{Fault}
-use Rattle.refusals.specs.Said.{Said, success, refused, refusedBy}
+use Rattle.refusals.specs.Said.{Said, success, refused}
 use Rattle.meaning.specs.Labelling.{Labelling, Wanted, FirstDifference}
 use Rattle.meaning.specs.Rules.{Met}
 use Rattle.meaning.specs.Parts.{inPart, partValues}
@@ -24,7 +24,7 @@ use Rattle.rules.specs.Record.{meaningOf}
 use Rattle.rules.specs.Table.{wordAt, ruleAt, bookOf}
 use Rattle.accepts.proofs.Inside.{table-inside}
 use Rattle.solver.specs.declared.Solved.{Solved}
-use Rattle.solver.specs.Solving.{saidSolved, Buffers, held, WritesLabels, RefusesBook, RefusesRoom, SolveSays, bad-table, no-room, no-labelling, writes-labels}
+use Rattle.solver.specs.Solving.{saidSolved, Buffers, held, WritesLabels, RefusesBook, SolveSays, bad-table, no-room, no-labelling, writes-labels}
 use Rattle.solver.proofs.Unique.{says-unique}
 use Rattle.wrong.specs.Example.{head, twoItems, wrongCount}
 

@@ -1,21 +1,21 @@
 -- Wrong answers of `writer`.
 -- Assumes nothing.
 use mathlib.Core.Path.{_≡_, refl, ap}
-use mathlib.Core.List.{List, [], _∷_, _++_}
+use mathlib.Core.List.{List, [], _∷_}
 use Prim.Native.Nat.{ℕ, _≤_}
 use native.Mathlib.Nat.{not-suc-le-zero}
 use native.Mathlib.Omega.{arith}
 use lib.ListN.{length, getD, replicate}
 use Rattle.laws.specs.First.{FirstFailing}
 use Rattle.refusals.specs.declared.Fault.{Fault}
-use Rattle.refusals.specs.Said.{Said, success, refused}
+use Rattle.refusals.specs.Said.{Said, refused}
 use Rattle.labels.specs.Labels.{LevelInRange}
 use Rattle.tokens.specs.Numbers.{digit, digitsOf, decimalLen}
 use Rattle.accepts.specs.Tables.{Tables}
 use Rattle.writer.specs.declared.Written.{Written}
-use Rattle.writer.specs.Texts.{pieces, bookText}
-use Rattle.writer.specs.Writing.{saidWritten, WriteSays, bad-table, too-long, no-room, written, LabelsSays, bad-items, few-labels, bad-label, short-buffer, labelled}
-use Rattle.writer.proofs.Unique.{write-says-unique}
+use Rattle.writer.specs.Texts.{pieces, bookText, labelsText}
+use Rattle.writer.specs.Writing.{saidWritten, WriteSays, no-room, written, LabelsSays, bad-items, few-labels, bad-label, short-buffer, labelled}
+use Rattle.writer.proofs.Unique.{write-says-unique, labels-say-unique}
 use Rattle.wrong.specs.Example.{head}
 
 -- The book without items and rules, whose text, "form=1" and "end=1", has 13 bytes.
@@ -64,3 +64,20 @@ pub write-labels-answers-a-later-bad-label
     : (t marks out d : List ℕ) → LabelsSays t 2 (16 ∷ 16 ∷ []) marks out (saidWritten (Written.Refused (record { fault = Fault.BadLabel; place = 1 }))) d → ⊥
 write-labels-answers-a-later-bad-label t marks out d x =
     let z : 16 ≤ 15 = said-bad-label x refl .before .each 0 (omega arith) .most in omega arith
+
+-- No items and no labels, of which the text has 13 bytes too, in a buffer of one byte.
+no-labels : LabelsSays [] 0 [] [] (0 ∷ []) (refused 11 0) (0 ∷ [])
+unfolding labelsText pieces digitsOf decimalLen digit
+no-labels = short-buffer (record {
+  items = empty .items;
+  room = record { forLevels = omega arith; forMarks = omega arith };
+  range = record { each = λ i l. absurd (not-suc-le-zero l) };
+}) (omega arith)
+
+pub write-labels-answers-text-without-room : (n : ℕ) (d : List ℕ) → LabelsSays [] 0 [] [] (0 ∷ []) (saidWritten (Written.Text n)) d → ⊥
+write-labels-answers-text-without-room n d x =
+    let e = labels-say-unique x no-labels .answer in let z : _≡_ {A = ℕ} 0 1 = cc in omega arith
+
+pub write-labels-leaves-a-part-of-the-text : (a : Written) → LabelsSays [] 0 [] [] (0 ∷ []) (saidWritten a) (102 ∷ []) → ⊥
+write-labels-leaves-a-part-of-the-text a x =
+    let z : _≡_ {A = ℕ} 102 0 = ap (λ (l : List ℕ). getD l 0 0) (labels-say-unique x no-labels .buffer) in omega arith
