@@ -1,0 +1,1 @@
+// No code: wrong answers of the public routines, each with a theorem in proofs/ that it breaks the routine's promise.
