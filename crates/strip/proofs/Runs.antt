@@ -61,12 +61,20 @@ runs-leave (strips last only p calls) =
 labelled-same : {book : List ℕ} {lent a b : Lent} {h k : Head} → AssignSays book lent (saidHead h) a → AssignSays book lent (saidHead k) b → (h ≡ k) × (a ≡ b)
 labelled-same {h = h} {k} p q = let same = assign-unique {x = Assigned.Labelled h} {y = Assigned.Labelled k} p q in let e = same .0 in (cc, same .1)
 
+abbrev openedBy : Head → Lent → Class → Opened
+openedBy h labels reader = record { head = h; labels = labels; reader = reader }
+
 opens-unique : {room : Room} {book class : List ℕ} {o u : Opened} → Opens room book class o → Opens room book class u → o ≡ u
 opens-unique {o = o} {u} p q =
-    let e = reader-unique (p .known) (q .known) in
-    let reader : o .reader ≡ u .reader = cc in
-    let same = labelled-same (p .assigned) (q .assigned) in
-    rw (same .0, same .1, reader)
+    ap (λ (h : Head). openedBy h (o .labels) (o .reader)) (same .0)
+    ∙ ap (λ (l : Lent). openedBy (u .head) l (o .reader)) (same .1)
+    ∙ ap (openedBy (u .head) (u .labels)) reader
+  where
+    same : (o .head ≡ u .head) × (o .labels ≡ u .labels)
+    same = labelled-same (p .assigned) (q .assigned)
+
+    reader : o .reader ≡ u .reader
+    reader = let e = reader-unique {r = Reader.Known (o .reader)} {s = Reader.Known (u .reader)} (p .known) (q .known) in cc
 
 -- The columns that are kept are the same whenever they are asked for.
 pub kept-unique : {room : Room} {book class export : List ℕ} {last : Bool} {k m : List Bool} → KeptIn room book class export last k → KeptIn room book class export last m → k ≡ m
@@ -82,31 +90,31 @@ kept-unique {room} {export = export} {last} p q =
     count : p .count ≡ q .count
     count = let e = same .answer in cc
 
-never : {book : List ℕ} {lent a b : Lent} {r : Refusal} {h : Head} → AssignSays book lent (saidAssigned (Assigned.Refused r)) a → AssignSays book lent (saidHead h) b → ⊥
-never {r = r} {h} p q = let e = assign-unique {x = Assigned.Refused r} {y = Assigned.Labelled h} p q .0 in let z : _≡_ {A = ℕ} 0 1 = cc in omega arith
+never : {book : List ℕ} {lent a b : Lent} (r : Refusal) {h : Head} → AssignSays book lent (saidAssigned (Assigned.Refused r)) a → AssignSays book lent (saidHead h) b → ⊥
+never r {h} p q = let e = assign-unique {x = Assigned.Refused r} {y = Assigned.Labelled h} p q .0 in let z : _≡_ {A = ℕ} 0 1 = cc in omega arith
 
-no-reader : {class : List ℕ} {r : Refusal} {c : Class} → ReaderSays class (saidReader (Reader.Refused r)) → ReaderSays class (saidReader (Reader.Known c)) → ⊥
-no-reader p q = let e = reader-unique p q in let z : _≡_ {A = ℕ} 0 1 = cc in omega arith
+no-reader : {class : List ℕ} (r : Refusal) {c : Class} → ReaderSays class (saidReader (Reader.Refused r)) → ReaderSays class (saidReader (Reader.Known c)) → ⊥
+no-reader r {c} p q = let e = reader-unique {r = Reader.Refused r} {s = Reader.Known c} p q in let z : _≡_ {A = ℕ} 0 1 = cc in omega arith
 
 -- Refused first, or columns are kept, and never both; and the refusal is one.
 refused-same : {room : Room} {book class export : List ℕ} {last : Bool} {r s : Refusal} → RefusedFirst room book class export last r → RefusedFirst room book class export last s → r ≡ s
-refused-same (by-book {r} p) (by-book {s} q) = let e = assign-unique {x = Assigned.Refused r} {y = Assigned.Refused s} p q .0 in cc
-refused-same (by-book {r} p) (by-class {h = h} q c) = absurd (never p q)
-refused-same (by-book {r} p) (by-header o room q) = absurd (never p (o .assigned))
-refused-same (by-class p c) (by-book {s} q) = absurd (never q p)
-refused-same (by-class p c) (by-class q d) = let e = reader-unique c d in cc
-refused-same (by-class p c) (by-header o room q) = absurd (no-reader c (o .known))
-refused-same (by-header o room p) (by-book q) = absurd (never q (o .assigned))
-refused-same (by-header o room p) (by-class q d) = absurd (no-reader d (o .known))
-refused-same {room} {export = export} {last} (by-header {r} {o} p x y) (by-header {s} {u} {after} q z w) =
+refused-same {r = r} {s} (by-book p) (by-book q) = let e = assign-unique {x = Assigned.Refused r} {y = Assigned.Refused s} p q .0 in cc
+refused-same {r = r} {s} (by-book p) (by-class q c) = absurd (never r p q)
+refused-same {r = r} {s} (by-book p) (by-header o fits q) = absurd (never r p (o .assigned))
+refused-same {r = r} {s} (by-class p c) (by-book q) = absurd (never s q p)
+refused-same {r = r} {s} (by-class p c) (by-class q d) = let e = reader-unique {r = Reader.Refused r} {s = Reader.Refused s} c d in cc
+refused-same {r = r} {s} (by-class p c) (by-header o fits q) = absurd (no-reader r c (o .known))
+refused-same {r = r} {s} (by-header o fits p) (by-book q) = absurd (never s q (o .assigned))
+refused-same {r = r} {s} (by-header o fits p) (by-class q d) = absurd (no-reader s d (o .known))
+refused-same {room} {export = export} {last} {r} {s} (by-header p x y) (by-header {after = after} q z w) =
     let moved = subst (λ (v : Opened). OpenedSays v export last (room .columns) (saidColumns (Columns.Refused s)) after) (opens-unique q p) w in
     let e = columns-unique {r = Columns.Refused r} {s = Columns.Refused s} y moved .answer in
     cc
 
 not-kept : {room : Room} {book class export : List ℕ} {last : Bool} {r : Refusal} {k : List Bool} → RefusedFirst room book class export last r → KeptIn room book class export last k → ⊥
-not-kept (by-book p) q = never p (q .opens .assigned)
-not-kept (by-class p c) q = no-reader c (q .opens .known)
-not-kept {room} {export = export} {last} (by-header {r} {o} {after} p x y) q =
+not-kept {r = r} (by-book p) q = never r p (q .opens .assigned)
+not-kept {r = r} (by-class p c) q = no-reader r c (q .opens .known)
+not-kept {room} {export = export} {last} {r} (by-header {after = after} p x y) q =
     let moved = subst (λ (v : Opened). OpenedSays v export last (room .columns) (saidColumns (Columns.Refused r)) after) (opens-unique p (q .opens)) y in
     let e = columns-unique {r = Columns.Refused r} {s = Columns.Kept (q .count)} moved (q .says) .answer in
     let z : _≡_ {A = ℕ} 0 1 = cc in

@@ -13,8 +13,8 @@ slice-aggregate-strip c = long-prefix _ _ (c .before .before .before .before .pr
 strip-requires : tie.Need-strip-requires
 strip-requires c κs = search needs
 
-enum-known-used : tie.Need-enum-known-used
-enum-known-used c = search needs
+enum-known-cut : tie.Need-enum-known-cut
+enum-known-cut c = search needs
 
 slice-reshare-prefix-write-all : tie.Need-slice-reshare-prefix-write-all
 slice-reshare-prefix-write-all c = search (written-within, needs)
@@ -46,8 +46,8 @@ returns c = search needs
 go-on-requires : tie.Need-go-on-requires
 go-on-requires c κs = search (taken-held, needs)
 
-enum-known-number : tie.Need-enum-known-number
-enum-known-number c = search needs
+enum-known-refusal : tie.Need-enum-known-refusal
+enum-known-refusal c = search needs
 
 refuse-requires : tie.Need-refuse-requires
 refuse-requires c κs = search needs
@@ -80,7 +80,7 @@ strip-some-spec =
     slice-reshare-prefix-strip
     slice-aggregate-strip
     strip-requires
-    enum-known-used
+    enum-known-cut
     slice-reshare-prefix-write-all
     slice-aggregate-write-all
     write-all-requires
@@ -91,7 +91,7 @@ strip-some-spec =
     same-length-2
     returns
     go-on-requires
-    enum-known-number
+    enum-known-refusal
     refuse-requires
     stopped-requires-2
     same-length-3
