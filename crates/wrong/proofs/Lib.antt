@@ -16,3 +16,6 @@ pub mod Reading
 pub mod Writing
 pub mod Assigning
 pub mod Answering
+pub mod Records
+pub mod Stripping
+pub mod Columns

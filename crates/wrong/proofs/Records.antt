@@ -1,0 +1,39 @@
+-- Wrong answers of `records`.
+-- Assumes nothing.
+use mathlib.Core.Path.{_≡_, ap}
+use mathlib.Core.Bool.{false}
+use mathlib.Core.List.{List, [], _∷_}
+use Prim.Native.Nat.{ℕ}
+use native.Mathlib.Omega.{arith}
+use lib.ListN.{drop, getD}
+use Rattle.laws.specs.Over.{over}
+use Rattle.records.specs.Fields.{partOf, plainByte, afterCr, behind, scan, fieldAt}
+use Rattle.records.specs.Rows.{rowOf, recordAt, endsOf, RowSays}
+use Rattle.records.specs.declared.Field.{Field}
+use Rattle.records.specs.declared.Size.{Size}
+
+-- Two quotes are a field of two bytes.
+pub read-field-is-open-of-two-quotes : Field.Open ≡ fieldAt (drop 0 (34 ∷ 34 ∷ [])) → ⊥
+unfolding scan behind afterCr plainByte
+read-field-is-open-of-two-quotes e = let f : Field.Open ≡ Field.End 2 = e in let z : _≡_ {A = ℕ} 0 1 = cc in omega arith
+
+-- "a", a CR and "b": no line ends there.
+pub read-field-ends-a-line-at-a-bare-cr : Field.Line 1 ≡ fieldAt (drop 0 (97 ∷ 13 ∷ 98 ∷ [])) → ⊥
+unfolding scan behind afterCr plainByte
+read-field-ends-a-line-at-a-bare-cr e = let f : Field.Line 1 ≡ Field.Bad = e in let z : _≡_ {A = ℕ} 0 1 = cc in omega arith
+
+-- "a" and CRLF, one field: the record is whole.
+abbrev row : List ℕ
+row = 97 ∷ 13 ∷ 10 ∷ []
+
+pub read-row-is-bad-of-a-record : (d : List ℕ) → RowSays row 0 false 1 (0 ∷ []) Size.Bad d → ⊥
+unfolding recordAt rowOf scan behind afterCr plainByte
+read-row-is-bad-of-a-record d x = let f : Size.Bad ≡ Size.Whole (record { fields = 1; bytes = 3 }) = x .size in let z : _≡_ {A = ℕ} 0 1 = cc in omega arith
+
+-- Its field ends at 1.
+pub read-row-leaves-the-ends : (s : Size) → RowSays row 0 false 1 (0 ∷ []) s (0 ∷ []) → ⊥
+unfolding endsOf scan behind afterCr plainByte over
+read-row-leaves-the-ends s x = let f : (0 ∷ []) ≡ (1 ∷ []) = x .ends-after in let z : _≡_ {A = ℕ} 0 1 = ap (λ (l : List ℕ). getD l 0 0) f in omega arith
+
+pub part-is-the-front : (97 ∷ []) ≡ partOf (97 ∷ 98 ∷ []) 1 2 → ⊥
+part-is-the-front e = let z : _≡_ {A = ℕ} 97 98 = ap (λ (l : List ℕ). getD l 0 0) e in omega arith
