@@ -33,7 +33,7 @@ read-row-is-bad-of-a-record d x = let f : Size.Bad ≡ Size.Whole (record { fiel
 -- Its field ends at 1.
 pub read-row-leaves-the-ends : (s : Size) → RowSays row 0 false 1 (0 ∷ []) s (0 ∷ []) → ⊥
 unfolding endsOf scan behind afterCr plainByte over
-read-row-leaves-the-ends s x = let f : (0 ∷ []) ≡ (1 ∷ []) = x .ends-after in let z : _≡_ {A = ℕ} 0 1 = ap (λ (l : List ℕ). getD l 0 0) f in omega arith
+read-row-leaves-the-ends s x = let f : _≡_ {A = List ℕ} (0 ∷ []) (1 ∷ []) = x .ends-after in let z : _≡_ {A = ℕ} 0 1 = ap (λ (l : List ℕ). getD l 0 0) f in omega arith
 
 pub part-is-the-front : (97 ∷ []) ≡ partOf (97 ∷ 98 ∷ []) 1 2 → ⊥
 part-is-the-front e = let z : _≡_ {A = ℕ} 97 98 = ap (λ (l : List ℕ). getD l 0 0) e in omega arith
