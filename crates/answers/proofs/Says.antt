@@ -36,7 +36,7 @@ use Rattle.writer.proofs.Unique.{written-told}
 use Rattle.assign.specs.declared.Assigned.{Assigned}
 use Rattle.assign.specs.Assigning.{saidAssigned, lent, AssignSays}
 use Rattle.answers.specs.Answering.{countLine, refusalText, AnswerSays, RoutineSays, no-room, written}
-use Rattle.answers.specs.Inner.{Whole, LabelsReady, FrontWith}
+use Rattle.answers.specs.Inner.{Whole, PrintReady, FrontWith}
 use Rattle.answers.proofs.Short.{refusal-short}
 use Rattle.answers.proofs.Told.{told-by, labels-printed}
 
@@ -54,7 +54,7 @@ refusal-grown refusal {d = d} size e form numbered placed end =
     front-there (grown-grown (grown-grown (grown-grown form (rw e at numbered)) placed) end) (omega (arith, size .size, refusal-short refusal))
 
 -- Right labels are written, whatever the buffer held.
-module _ {t : List ℕ} {n : ℕ} {levels marks d : List ℕ} (ready : LabelsReady t n levels marks d) where
+module _ {t : List ℕ} {n : ℕ} {levels marks d : List ℕ} (ready : PrintReady t n levels marks d) where
   short : length (labelsText t n levels marks) ≤ length d
   short = omega (arith, ready .buffer .size, labels-short levels marks (ready .labels .items) (ready .labels .range))
 
@@ -89,7 +89,7 @@ module _ {t : List ℕ} {n : ℕ} {levels marks d : List ℕ} (ready : LabelsRea
 module _ {l items levels marks : List ℕ} {a : Assigned} {items′ levels′ marks′ : List ℕ}
     (says : AssignSays l (lent items (held levels marks)) (saidAssigned a) (lent items′ (held levels′ marks′))) (bytes : length items ≡ mostItems * nameRoom)
     (many : length levels ≡ mostItems) (much : length marks ≡ mostItems) where
-  pub labels-ready : {h : Head} → a ≡ Assigned.Labelled h → {d : List ℕ} → Whole d → LabelsReady items′ (h .items) levels′ marks′ d
+  pub labels-ready : {h : Head} → a ≡ Assigned.Labelled h → {d : List ℕ} → Whole d → PrintReady items′ (h .items) levels′ marks′ d
   labels-ready e size =
       let x = told-by says (record { items = bytes; levels = many; marks = much }) e in
       record {

@@ -12,7 +12,7 @@ pub record Whole (d : List ℕ) : Type 0 where
   pub size : length d ≡ mostText
 
 -- Right labels, and a buffer with room for every text.
-pub record LabelsReady (t : List ℕ) (n : ℕ) (levels marks d : List ℕ) : Type 0 where
+pub record PrintReady (t : List ℕ) (n : ℕ) (levels marks d : List ℕ) : Type 0 where
   pub labels : Labels t n levels marks
   pub buffer : Whole d
 

@@ -18,7 +18,7 @@ ghost use Rattle.puts.specs.InnerGrowing.{Grown, Front};
 ghost use Rattle.writer.specs.Texts.{labelsText};
 ghost use Rattle.writer.specs.Writing.{saidWritten};
 ghost use Rattle.answers.specs.Answering.{countLine, refusalText, AnswerSays, RoutineSays};
-ghost use Rattle.answers.specs.Inner.{Whole, LabelsReady, FrontWith};
+ghost use Rattle.answers.specs.Inner.{Whole, PrintReady, FrontWith};
 
 // What the labelling program prints for a text, at the front of `out`, and its length; NoRoom at 0 where `out` is shorter than that.
 pub fn answer(text: &[u8], out: &mut [u8]) -> Written
@@ -52,7 +52,7 @@ fn make(text: &[u8], out: &mut [u8]) -> usize
 
 // Makes the text of labels that are right.
 fn labels_text(items: &[u8], n: usize, levels: &[u64], marks: &[u64], out: &mut [u8]) -> usize
-    requires { ⌜ LabelsReady (now items) n (now levels) (now marks) (now out) ⌝ }
+    requires { ⌜ PrintReady (now items) n (now levels) (now marks) (now out) ⌝ }
     ensures { λ r. ⌜ Front (labelsText (now (items .entry)) n (now (levels .entry)) (now (marks .entry))) (now (out .exit)) r ⌝ }
 {
     match write_labels(items, n, levels, marks, out) {

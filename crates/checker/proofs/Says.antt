@@ -16,15 +16,15 @@ use Rattle.checker.specs.declared.Checked.{Checked}
 use Rattle.checker.specs.declared.Checked.the-variants.{Met, Unmet}
 use Rattle.checker.specs.Answer.{saidChecked}
 use Rattle.checker.specs.Checking.{RuleMet, CheckSays, bad-table, no-room, bad-label, first-unmet, all-met}
-use Rattle.checker.specs.InnerJudging.{refusedAt, Judges}
+use Rattle.checker.specs.InnerJudging.{refusalAt, Judges}
 
 -- What is answered of accepted rules; `i` is what the search for a bad label tells.
 module _ {u : ℕ} {h : Head} {levels marks : List ℕ} {b : Bool} (told : Tells (Room (h .items) levels marks) b) where
-  pub judges-no-room : not b ≡ true → {r : Checked} → r ≡ refusedAt Fault.NoRoom 0 → Judges u h levels marks (saidChecked r)
+  pub judges-no-room : not b ≡ true → {r : Checked} → r ≡ refusalAt Fault.NoRoom 0 → Judges u h levels marks (saidChecked r)
   judges-no-room short e = rw e (record { says = λ at sought. no-room (record { accepted = tt; short = told-no told short }) })
 
   module _ (enough : not b ≡ false) {i : ℕ} (bad : Sought (LevelInRange levels) (h .items) i) where
-    pub judges-bad-label : i < h .items → {r : Checked} → r ≡ refusedAt Fault.BadLabel i → Judges u h levels marks (saidChecked r)
+    pub judges-bad-label : i < h .items → {r : Checked} → r ≡ refusalAt Fault.BadLabel i → Judges u h levels marks (saidChecked r)
     judges-bad-label s e = rw e (record { says = λ at sought. bad-label (record { accepted = tt; room = told-yes told enough; label = bad .found s }) })
 
     module _ (none : h .items ≤ i) where
@@ -51,7 +51,7 @@ module _ {Accepted : Type 0} {h : Head} {at : ℕ → Rule} {levels marks : List
   judges-accepted a j sought = says-accepted a (j .says at sought)
 
   module _ {b : Bool} (told : Tells Accepted b) where
-    pub says-bad-table : not b ≡ true → {r : Checked} → r ≡ refusedAt Fault.BadTable 0 → CheckSays Accepted h at levels marks (saidChecked r)
+    pub says-bad-table : not b ≡ true → {r : Checked} → r ≡ refusalAt Fault.BadTable 0 → CheckSays Accepted h at levels marks (saidChecked r)
     says-bad-table bad e = rw e (bad-table (told-no told bad))
 
     pub says-judged : not b ≡ false → {s : Said} {u : ℕ} → Judges u h levels marks s → Sought (RuleMet at levels marks) (h .rules) u → CheckSays Accepted h at levels marks s

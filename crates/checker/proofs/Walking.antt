@@ -29,7 +29,7 @@ use Rattle.checker.specs.declared.list.Seen.{Seen}
 use Rattle.checker.specs.Answer.{saidChecked}
 use Rattle.checker.specs.Checking.{bad-table}
 use Rattle.checker.specs.List.{listAt, ListAccepted}
-use Rattle.checker.specs.InnerJudging.{refusedAt, Judges}
+use Rattle.checker.specs.InnerJudging.{refusalAt, Judges}
 use Rattle.checker.specs.InnerWalking.{Sizes, Count, upTo, InOrder, kindBefore, SeenSoFar, Starts, Stands, SoughtOn, GoesOn, Concludes}
 use Rattle.checker.proofs.Meets.{all-met-more, unmet-here}
 use Rattle.checker.proofs.Says.{judges-accepted}
@@ -154,7 +154,7 @@ module _ {before : Seen} {rule : Rule} {i : ℕ} {h : Head} {levels marks : List
 
 -- The end of the walk: the sizes are wrong, the rules are not accepted, or they are.
 module _ {seen : Seen} {len : ℕ} {h : Head} {levels marks : List ℕ} {b : Bool} (told : Tells (Sizes len h) b) where
-  pub concludes-sizes : not b ≡ true → {r : Checked} → r ≡ refusedAt Fault.BadTable 0 → Concludes seen len h levels marks (saidChecked r)
+  pub concludes-sizes : not b ≡ true → {r : Checked} → r ≡ refusalAt Fault.BadTable 0 → Concludes seen len h levels marks (saidChecked r)
   concludes-sizes bad e = rw e (record {
     says = λ rules l count x. bad-table (λ a. told-no told bad (record { items = a .accepted .items; rules = a .accepted .rules; room = rw (← l) (a .room) }));
   })
@@ -164,7 +164,7 @@ module _ {seen : Seen} {len : ℕ} {h : Head} {levels marks : List ℕ} {b : Boo
     all-seen : {at : ℕ → Rule} {c : ℕ} → Count len h c → SeenSoFar h at levels marks c seen → SeenSoFar h at levels marks (h .rules) seen
     all-seen {at} count x = subst (λ k. SeenSoFar h at levels marks k seen) (count .all (told-yes told sizes)) x
 
-    pub concludes-order : not (seen .good) ≡ true → {r : Checked} → r ≡ refusedAt Fault.BadTable 0 → Concludes seen len h levels marks (saidChecked r)
+    pub concludes-order : not (seen .good) ≡ true → {r : Checked} → r ≡ refusalAt Fault.BadTable 0 → Concludes seen len h levels marks (saidChecked r)
     concludes-order bad e = rw e (record {
       says = λ rules l count x. bad-table (λ a. told-no (all-seen count x .good) bad (record { each = a .accepted .each }));
     })

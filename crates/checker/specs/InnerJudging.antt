@@ -12,8 +12,8 @@ use Rattle.checker.specs.declared.Checked.the-variants.{Refused}
 use Rattle.checker.specs.Checking.{RuleMet, CheckSays}
 
 -- The refusal for a fault at a place.
-abbrev pub refusedAt : Fault → ℕ → Checked
-refusedAt f p = Refused (record { fault = f; place = p })
+abbrev pub refusalAt : Fault → ℕ → Checked
+refusalAt f p = Refused (record { fault = f; place = p })
 
 -- What checking says of any rules of which a search for one that is not met tells the number `unmet`.
 pub record Judges (unmet : ℕ) (h : Head) (levels marks : List ℕ) (s : Said) : Type 0 where

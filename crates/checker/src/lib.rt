@@ -22,7 +22,7 @@ ghost use Rattle.rules.specs.Table.{ruleAt};
 ghost use Rattle.accepts.specs.Accepted.{TableAccepted};
 ghost use Rattle.checker.specs.Answer.{saidChecked};
 ghost use Rattle.checker.specs.Checking.{RuleMet, CheckSays};
-ghost use Rattle.checker.specs.InnerJudging.{refusedAt, Judges};
+ghost use Rattle.checker.specs.InnerJudging.{refusalAt, Judges};
 
 // What checking answers: every rule is met, or the number of the first one that is not, from 0 in table order; or a refusal, which for a bad
 // label has the number of the item as its place.
@@ -63,7 +63,7 @@ pub(crate) fn judged(unmet: usize, head: Head, levels: &[u64], marks: &[u64]) ->
 
 // The refusal for a fault at a place.
 pub(crate) fn refused(fault: Fault, place: usize) -> Checked
-    ensures { λ r. ⌜ r ≡ refusedAt fault place ⌝ }
+    ensures { λ r. ⌜ r ≡ refusalAt fault place ⌝ }
 {
     Checked::Refused(Refusal {
         fault,

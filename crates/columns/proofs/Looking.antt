@@ -25,7 +25,7 @@ use Rattle.records.specs.Fields.{partOf}
 use Rattle.records.specs.Inner.{startAt, FieldSpan, fieldsTo}
 use Rattle.records.proofs.Parts.{span-within, fields-count, fields-at, start-more}
 use Rattle.exports.specs.Names.{unquoted, nameIn, columnItem}
-use Rattle.columns.specs.Inner.{Holds, HeaderReady, FindsItems}
+use Rattle.columns.specs.Inner.{HoldsNumber, HeaderReady, FindsItems}
 
 -- The other variants are no At.
 not-found : (x : Found) → OneOf (1 ∷ 2 ∷ []) (enum.Declared.tagOf found.the-type x) → (i : ℕ) → x ≡ Found.At i → ⊥
@@ -117,7 +117,7 @@ module _ {t : List ℕ} {n : ℕ} {l ends : List ℕ} {fields : ℕ} {numbers₀
         items = λ z. absurd (true-not-false z refl);
       }
 
-      module _ {i : ℕ} (a : x ≡ Found.At i) {b : Bool} (told : Tells (Holds numbers c i) b) where
+      module _ {i : ℕ} (a : x ≡ Found.At i) {b : Bool} (told : Tells (HoldsNumber numbers c i) b) where
         -- A name that is repeated.
         pub look-repeated : b ≡ true → FindsItems t n (fieldsTo l 0 ends fields) false numbers
         look-repeated e = record {
@@ -129,7 +129,7 @@ module _ {t : List ℕ} {n : ℕ} {l ends : List ℕ} {fields : ℕ} {numbers₀
           items = λ z. absurd (true-not-false z refl);
         }
           where
-            s : Holds numbers c i
+            s : HoldsNumber numbers c i
             s = told .holds e
 
         -- A new name.

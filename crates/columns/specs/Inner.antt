@@ -27,7 +27,7 @@ pub record Quoted (l : List ℕ) (from to : ℕ) : Type 0 where
   pub opens : getD l from 0 ≡ quote
 
 -- A number is one of the first c.
-pub record Holds (numbers : List ℕ) (c number : ℕ) : Type 0 where
+pub record HoldsNumber (numbers : List ℕ) (c number : ℕ) : Type 0 where
   pub place : ℕ
   pub below : place < c
   pub same : getD numbers place 0 ≡ number

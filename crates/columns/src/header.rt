@@ -21,7 +21,7 @@ ghost use Rattle.records.specs.Fields.{partOf};
 ghost use Rattle.records.specs.Inner.{FieldSpan, fieldsTo};
 ghost use Rattle.exports.specs.Names.{unquoted};
 ghost use Rattle.columns.specs.Columns.{saidColumns, HeaderSays};
-ghost use Rattle.columns.specs.Inner.{refusedFor, Quoted, Holds, NumberRoom, HeaderReady, FindsItems, HeadSays, CoverReady, Covering, KeepSays};
+ghost use Rattle.columns.specs.Inner.{refusedFor, Quoted, HoldsNumber, NumberRoom, HeaderReady, FindsItems, HeadSays, CoverReady, Covering, KeepSays};
 
 // A refusal.
 pub(crate) fn refused(fault: Fault, place: u64) -> Columns
@@ -128,7 +128,7 @@ fn is_quoted(text: &[u8], from: usize, to: usize) -> bool
 // Whether a number is one of the first c.
 fn holds(numbers: &[u64], c: usize, number: u64) -> bool
     requires { ⌜ c ≤ length (now numbers) ⌝ }
-    ensures { λ r. ⌜ Tells (Holds (now (numbers .entry)) c number) r ⌝ }
+    ensures { λ r. ⌜ Tells (HoldsNumber (now (numbers .entry)) c number) r ⌝ }
 {
     let mut k = 0;
     while k < c {

@@ -63,7 +63,7 @@ pub fn read_field(text: &[u8], at: usize) -> Field
 }
 
 // How many bytes a field has; 0 where it is none.
-pub fn field_len(found: Field) -> usize
+fn field_len(found: Field) -> usize
     ensures { λ r. ⌜ r ≡ fieldLen found ⌝ }
 {
     match found {
@@ -75,8 +75,9 @@ pub fn field_len(found: Field) -> usize
     }
 }
 
-// The record at a place, with at most so many fields, and no more than `ends` has room for. Nothing follows the text if it is the last one. From its
-// front on, `ends` then holds where each field ends that was read, up to one with no comma behind it; what is no field ends where it starts.
+// Bad where no record stands at the place, or one with over `most` fields, with more than `ends` has room for, or with over 4,096 bytes before its line end;
+// More where the text ends before the record does and is not the last one; else how large the record is. From its front on, `ends` then holds where each
+// field ends that was read, up to one with no comma behind it; what is no field ends where it starts. The rest of `ends` is as it was.
 pub fn read_row(text: &[u8], at: usize, last: bool, most: usize, ends: &mut [usize]) -> Size
     ensures { λ r. ⌜ RowSays (now (text .entry)) at last most (now (ends .entry)) r (now (ends .exit)) ⌝ }
 {
@@ -96,7 +97,7 @@ pub fn read_row(text: &[u8], at: usize, last: bool, most: usize, ends: &mut [usi
     Size::Bad
 }
 
-// The bytes from one place of a text up to another, as a part of it: a field, from where it starts to where it ends. Past the text's end there are none.
+// The bytes from one place of a text up to another, as a part of it; past the text's end there are none. A field is handed back by where it starts and ends.
 pub fn part(text: &[u8], from: usize, to: usize) -> &[u8]
     ensures { λ r. ⌜ now r ≡ partOf (now (text .entry)) from to ⌝ }
 {

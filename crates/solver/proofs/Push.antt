@@ -14,7 +14,7 @@ use Rattle.rules.specs.Table.{ruleAt}
 use Rattle.rules.specs.declared.Rule.{Rule}
 use Rattle.rules.proofs.Meaning.{meaning-cap, meaning-floor, meaning-follow}
 use Rattle.solver.specs.Solving.{Buffers, held, labelsOf}
-use Rattle.solver.specs.InnerSteps.{meantAt, Named, LowersItem, PushesRule}
+use Rattle.solver.specs.InnerSteps.{meantAt, NamesLabelled, LowersItem, PushesRule}
 use Rattle.solver.proofs.OneItem.{tracks-same}
 
 room-item : {n i : ℕ} {levels marks : List ℕ} → Room n levels marks → i < n → Room (i + 1) levels marks
@@ -22,7 +22,7 @@ room-item r s = record { forLevels = omega (arith, r .forLevels); forMarks = ome
 
 module _ (t : List ℕ) (r : ℕ) (x : Rule) (same : x ≡ ruleAt t r) where
   -- The item that the rule lowers has room.
-  module _ {levels marks : List ℕ} (named : Named (meantAt t r) (held levels marks)) where
+  module _ {levels marks : List ℕ} (named : NamesLabelled (meantAt t r) (held levels marks)) where
     pub cap-room : x .kind ≡ 0 → Room (leftItem x 0 + 1) levels marks
     cap-room e = room-item (named .room) (subst (RuleInside (named .count)) (sym (ap meaningOf same) ∙ meaning-cap x e) (named .inside))
 

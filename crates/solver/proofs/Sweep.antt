@@ -22,7 +22,7 @@ use Rattle.labels.specs.Labels.{Room}
 use Rattle.rules.specs.declared.Head.{Head}
 use Rattle.rules.specs.Table.{bookOf}
 use Rattle.solver.specs.Solving.{Buffers, labelsOf}
-use Rattle.solver.specs.InnerSteps.{bookIn, valuesIn, labelsAt, meantAt, Usable, Named, sumOf, Tracks, PushesRule, sweepTurn, Sweeps, Unheld, Settles}
+use Rattle.solver.specs.InnerSteps.{bookIn, valuesIn, labelsAt, meantAt, Usable, NamesLabelled, sumOf, Tracks, PushesRule, sweepTurn, Sweeps, Unheld, Settles}
 use Rattle.solver.proofs.OneItem.{tracks-same}
 
 -- The turns of a sweep: each is a rule, and each rule has its turn.
@@ -103,7 +103,7 @@ module _ {h : Head} {t : List ℕ} {back : Bool} {before cur : Buffers} {changed
   rule-below = subst (λ z. z < h .rules) (sym e) (turn-below back (h .rules) k l)
 
   -- What the next push requires, and what is true after it.
-  pub turn-named : Named (meantAt t r) cur
+  pub turn-named : NamesLabelled (meantAt t r) cur
   turn-named = record { count = h .items; inside = usable .inside .inside r rule-below; room = room-kept (usable .room) (w .sized) }
 
   pub swept-more : {next : Buffers} {fell : Bool} → PushesRule (meantAt t r) cur next fell → SameSize cur next

@@ -42,7 +42,7 @@ pub record Usable (h : Head) (t : List ℕ) (b : Buffers) : Type 0 where
   pub size : h .items ≤ mostItems
 
 -- The same of one rule: every name of it has a label.
-pub record Named (r : Rule Class) (b : Buffers) : Type 0 where
+pub record NamesLabelled (r : Rule Class) (b : Buffers) : Type 0 where
   pub count : ℕ
   pub inside : RuleInside count r
   pub room : Room count (b .levels) (b .marks)

@@ -11,7 +11,7 @@ ghost use mathlib.Core.Path.{_≡_};
 ghost use Prim.Native.Nat.{_+_, _<_};
 ghost use Rattle.labels.specs.Labels.{Room};
 ghost use Rattle.solver.specs.Solving.{held};
-ghost use Rattle.solver.specs.InnerSteps.{Named, Usable, LowersItem, PushesRule, Sweeps, Settles, meantAt, sweepTurn};
+ghost use Rattle.solver.specs.InnerSteps.{NamesLabelled, Usable, LowersItem, PushesRule, Sweeps, Settles, meantAt, sweepTurn};
 
 // Lowers item i to the common part of its label and a bound. Answers whether that changed anything.
 fn lower(levels: &mut [u64], marks: &mut [u64], i: usize, bound: Class) -> bool
@@ -30,7 +30,7 @@ fn lower(levels: &mut [u64], marks: &mut [u64], i: usize, bound: Class) -> bool
 
 // Lowers the item that rule r bounds from above to what the rule allows. Answers whether that changed anything.
 fn push(rules: &[u64], r: usize, levels: &mut [u64], marks: &mut [u64]) -> bool
-    requires { ⌜ Named (meantAt (now rules) r) (held (now levels) (now marks)) ⌝ }
+    requires { ⌜ NamesLabelled (meantAt (now rules) r) (held (now levels) (now marks)) ⌝ }
     ensures { λ x. ⌜ PushesRule (meantAt (now (rules .entry)) r) (held (now (levels .entry)) (now (marks .entry))) (held (now (levels .exit)) (now (marks .exit))) x ⌝ }
 {
     let rule = rule_at(rules, r);

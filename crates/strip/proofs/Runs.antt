@@ -24,7 +24,7 @@ use Rattle.columns.specs.declared.Columns.{Columns}
 use Rattle.columns.proofs.Unique.{Same, columns-unique, reader-unique}
 use Rattle.columns.proofs.Pieces.{columns-stay}
 use Rattle.stripping.proofs.Calls.{calls-strip}
-use Rattle.strip.specs.Runs.{Room, Opened, Opens, OpenedSays, KeptIn, RefusedFirst, by-book, by-class, by-header, LeftOf, refused-first, stripped, Runs, refuses, strips, DifferHeldBack}
+use Rattle.strip.specs.Runs.{LentRoom, Opened, Opens, OpenedSays, KeptIn, RefusedFirst, by-book, by-class, by-header, LeftOf, refused-first, stripped, Runs, refuses, strips, DifferHeldBack}
 
 -- What is said of the first piece is said of the whole export.
 whole-says : {o : Opened} {first : List ℕ} {rest : List (List ℕ)} {before : List Bool} {s : Said} {after : List Bool} (last : Bool) → LastOnly last rest
@@ -35,14 +35,14 @@ whole-says {o} {first} {rest} {before} {s} {after} true only p h =
     (sym (ap (λ (ps : List (List ℕ)). first ++ allOf ps) (only .none refl) ∙ append-nil first)) p
 whole-says {first = first} {rest} false only p h = columns-stay true first (allOf rest) p h
 
-whole-refused : {room : Room} {book class first : List ℕ} {rest : List (List ℕ)} {r : Refusal} (last : Bool) → LastOnly last rest
+whole-refused : {room : LentRoom} {book class first : List ℕ} {rest : List (List ℕ)} {r : Refusal} (last : Bool) → LastOnly last rest
     → RefusedFirst room book class first last r → RefusedFirst room book class (first ++ allOf rest) true r
 whole-refused last only (by-book p) = by-book p
 whole-refused last only (by-class p q) = by-class p q
 whole-refused last only (by-header p room q) = by-header p room (whole-says last only q (λ e. let z : _≡_ {A = ℕ} 0 1 = cc in omega arith))
 
 -- However an export is cut, a run leaves what is left of the whole.
-pub runs-leave : {room : Room} {book class : List ℕ} {pieces : List (List ℕ)} {text : List ℕ} {v : Verdict} → Runs room book class pieces text v
+pub runs-leave : {room : LentRoom} {book class : List ℕ} {pieces : List (List ℕ)} {text : List ℕ} {v : Verdict} → Runs room book class pieces text v
     → LeftOf room book class (allOf pieces) text v
 unfolding allOf
 runs-leave (refuses last only p) = refused-first (whole-refused last only p)
@@ -64,7 +64,7 @@ labelled-same {h = h} {k} p q = let same = assign-unique {x = Assigned.Labelled 
 abbrev openedBy : Head → Lent → Class → Opened
 openedBy h labels reader = record { head = h; labels = labels; reader = reader }
 
-opens-unique : {room : Room} {book class : List ℕ} {o u : Opened} → Opens room book class o → Opens room book class u → o ≡ u
+opens-unique : {room : LentRoom} {book class : List ℕ} {o u : Opened} → Opens room book class o → Opens room book class u → o ≡ u
 opens-unique {o = o} {u} p q =
     ap (λ (h : Head). openedBy h (o .labels) (o .reader)) (same .0)
     ∙ ap (λ (l : Lent). openedBy (u .head) l (o .reader)) (same .1)
@@ -77,7 +77,7 @@ opens-unique {o = o} {u} p q =
     reader = let e = reader-unique {r = Reader.Known (o .reader)} {s = Reader.Known (u .reader)} (p .known) (q .known) in cc
 
 -- The columns that are kept are the same whenever they are asked for.
-pub kept-unique : {room : Room} {book class export : List ℕ} {last : Bool} {k m : List Bool} → KeptIn room book class export last k → KeptIn room book class export last m → k ≡ m
+pub kept-unique : {room : LentRoom} {book class export : List ℕ} {last : Bool} {k m : List Bool} → KeptIn room book class export last k → KeptIn room book class export last m → k ≡ m
 kept-unique {room} {export = export} {last} p q =
     p .is ∙ ap (λ (n : ℕ). take n (p .after)) count ∙ ap (take (q .count)) (same .buffer) ∙ sym (q .is)
   where
@@ -97,7 +97,7 @@ no-reader : {class : List ℕ} (r : Refusal) {c : Class} → ReaderSays class (s
 no-reader r {c} p q = let e = reader-unique {r = Reader.Refused r} {s = Reader.Known c} p q in let z : _≡_ {A = ℕ} 0 1 = cc in omega arith
 
 -- Refused first, or columns are kept, and never both; and the refusal is one.
-refused-same : {room : Room} {book class export : List ℕ} {last : Bool} {r s : Refusal} → RefusedFirst room book class export last r → RefusedFirst room book class export last s → r ≡ s
+refused-same : {room : LentRoom} {book class export : List ℕ} {last : Bool} {r s : Refusal} → RefusedFirst room book class export last r → RefusedFirst room book class export last s → r ≡ s
 refused-same {r = r} {s} (by-book p) (by-book q) = let e = assign-unique {x = Assigned.Refused r} {y = Assigned.Refused s} p q .0 in cc
 refused-same {r = r} {s} (by-book p) (by-class q c) = absurd (never r p q)
 refused-same {r = r} {s} (by-book p) (by-header o fits q) = absurd (never r p (o .assigned))
@@ -111,7 +111,7 @@ refused-same {room} {export = export} {last} {r} {s} (by-header p x y) (by-heade
     let e = columns-unique {r = Columns.Refused r} {s = Columns.Refused s} y moved .answer in
     cc
 
-not-kept : {room : Room} {book class export : List ℕ} {last : Bool} {r : Refusal} {k : List Bool} → RefusedFirst room book class export last r → KeptIn room book class export last k → ⊥
+not-kept : {room : LentRoom} {book class export : List ℕ} {last : Bool} {r : Refusal} {k : List Bool} → RefusedFirst room book class export last r → KeptIn room book class export last k → ⊥
 not-kept {r = r} (by-book p) q = never r p (q .opens .assigned)
 not-kept {r = r} (by-class p c) q = no-reader r c (q .opens .known)
 not-kept {room} {export = export} {last} {r} (by-header {after = after} p x y) q =
@@ -128,7 +128,7 @@ pub record SameLeft (x y : List ℕ) (v w : Verdict) : Type 0 where
 same-outcome : {o : Outcome} {x y : List ℕ} {v w : Verdict} → o ≡ record { text = x; verdict = v } → o ≡ record { text = y; verdict = w } → SameLeft x y v w
 same-outcome e f = record { text = ap (λ (o : Outcome). o .text) (sym e ∙ f); verdict = ap (λ (o : Outcome). o .verdict) (sym e ∙ f) }
 
-pub left-unique : {room : Room} {book class export x y : List ℕ} {v w : Verdict} → LeftOf room book class export x v → LeftOf room book class export y w → SameLeft x y v w
+pub left-unique : {room : LentRoom} {book class export x y : List ℕ} {v w : Verdict} → LeftOf room book class export x v → LeftOf room book class export y w → SameLeft x y v w
 left-unique (refused-first p) (refused-first q) = record { text = refl; verdict = ap refused (refused-same p q) }
 left-unique (refused-first p) (stripped q f) = absurd (not-kept p q)
 left-unique (stripped p e) (refused-first q) = absurd (not-kept q p)
@@ -136,7 +136,7 @@ left-unique {export = export} (stripped p e) (stripped q f) =
     same-outcome e (ap (λ (k : List Bool). strippedFrom k 1 export) (kept-unique p q) ∙ f)
 
 -- "Accepted exports that differ only in columns held back give the same bytes."
-pub held-back-same : {room : Room} {book class a b x y : List ℕ} → DifferHeldBack room book class a b → LeftOf room book class a x accepted
+pub held-back-same : {room : LentRoom} {book class a b x y : List ℕ} → DifferHeldBack room book class a b → LeftOf room book class a x accepted
     → LeftOf room book class b y accepted → x ≡ y
 held-back-same {a = a} {b} d (stripped p e) (stripped q f) =
     sym (ap (λ (o : Outcome). o .text) e)

@@ -23,7 +23,7 @@ use Rattle.columns.specs.declared.Columns.{Columns}
 use Rattle.stripping.specs.Calls.{Calls}
 
 -- The buffers that are lent for the items, their labels and the columns.
-pub record Room : Type 0 where
+pub record LentRoom : Type 0 where
   pub labelled : Lent
   pub columns : List Bool
 
@@ -34,7 +34,7 @@ pub record Opened : Type 0 where
   pub reader : Class
 
 -- The book is labelled, and the class is one.
-pub record Opens (room : Room) (book class : List ℕ) (o : Opened) : Type 0 where
+pub record Opens (room : LentRoom) (book class : List ℕ) (o : Opened) : Type 0 where
   pub assigned : AssignSays book (room .labelled) (saidHead (o .head)) (o .labels)
   pub known : ReaderSays class (saidReader (Reader.Known (o .reader)))
 
@@ -44,7 +44,7 @@ OpenedSays o export last before s after =
     ColumnsSays (o .labels .items) (o .head) (o .labels .labels .levels) (o .labels .labels .marks) (o .reader) export last before s after
 
 -- These columns of an export are kept: the header is good, and of each of its columns it is said whether the class covers the label of its item.
-pub record KeptIn (room : Room) (book class export : List ℕ) (last : Bool) (kept : List Bool) : Type 0 where
+pub record KeptIn (room : LentRoom) (book class export : List ℕ) (last : Bool) (kept : List Bool) : Type 0 where
   pub opened : Opened
   pub opens : Opens room book class opened
   pub count : ℕ
@@ -54,7 +54,7 @@ pub record KeptIn (room : Room) (book class export : List ℕ) (last : Bool) (ke
 
 -- "The book's own come first; then 12 with place 0 for a reader's class that isn't one", then the header's. Every header has room in the buffer that is lent for
 -- the columns.
-pub data RefusedFirst (room : Room) (book class export : List ℕ) (last : Bool) : Refusal → Type 0 where
+pub data RefusedFirst (room : LentRoom) (book class export : List ℕ) (last : Bool) : Refusal → Type 0 where
   by-book : {r : Refusal} {labels : Lent} → AssignSays book (room .labelled) (saidAssigned (Assigned.Refused r)) labels → RefusedFirst room book class export last r
   by-class : {r : Refusal} {h : Head} {labels : Lent} → AssignSays book (room .labelled) (saidHead h) labels → ReaderSays class (saidReader (Reader.Refused r)) →
       RefusedFirst room book class export last r
@@ -63,20 +63,20 @@ pub data RefusedFirst (room : Room) (book class export : List ℕ) (last : Bool)
 
 -- What is left of an export: nothing where the book, the class or the header is refused; else its records, the header first, with the columns that are kept,
 -- up to a bad one.
-pub data LeftOf (room : Room) (book class export : List ℕ) : List ℕ → Verdict → Type 0 where
+pub data LeftOf (room : LentRoom) (book class export : List ℕ) : List ℕ → Verdict → Type 0 where
   refused-first : {r : Refusal} → RefusedFirst room book class export true r → LeftOf room book class export [] (refused r)
   stripped : {kept : List Bool} {text : List ℕ} {v : Verdict} → KeptIn room book class export true kept →
       strippedFrom kept 1 export ≡ record { text = text; verdict = v } → LeftOf room book class export text v
 
 -- The calls of a run on the pieces of an export: `assign`, `reader_class` and, on the first piece, `kept_columns`; and then, from record 1 on, those of `strip`.
-pub data Runs (room : Room) (book class : List ℕ) : List (List ℕ) → List ℕ → Verdict → Type 0 where
+pub data Runs (room : LentRoom) (book class : List ℕ) : List (List ℕ) → List ℕ → Verdict → Type 0 where
   refuses : {first : List ℕ} {rest : List (List ℕ)} {r : Refusal} (last : Bool) → LastOnly last rest → RefusedFirst room book class first last r →
       Runs room book class (first ∷ rest) [] (refused r)
   strips : {first : List ℕ} {rest : List (List ℕ)} {kept : List Bool} {text : List ℕ} {v : Verdict} (last : Bool) → LastOnly last rest →
       KeptIn room book class first last kept → Calls kept 1 first rest text v → Runs room book class (first ∷ rest) text v
 
 -- Two exports "differ only in columns held back": the same columns are kept of both, and in these their records have the same bytes.
-pub record DifferHeldBack (room : Room) (book class a b : List ℕ) : Type 0 where
+pub record DifferHeldBack (room : LentRoom) (book class a b : List ℕ) : Type 0 where
   pub kept : List Bool
   pub first : KeptIn room book class a true kept
   pub second : KeptIn room book class b true kept
