@@ -1,11 +1,4 @@
 // Routines over exports.
-use super::answer::Answer;
-use super::answer::class;
-use super::answer::none;
-use super::answer::one;
-use super::answer::refused;
-use super::answer::three;
-use super::input::Numbers;
 use classes::Class;
 use columns::Columns;
 use columns::Reader;
@@ -14,6 +7,13 @@ use columns::reader_class;
 use rules::Head;
 use stripping::Stripped;
 use stripping::strip;
+use wire::answer::Answer;
+use wire::answer::class;
+use wire::answer::none;
+use wire::answer::one;
+use wire::answer::refused;
+use wire::answer::three;
+use wire::input::Numbers;
 
 pub(crate) fn call(
     routine: u64,

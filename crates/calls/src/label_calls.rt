@@ -1,16 +1,16 @@
 // Routines over labels, and over one rule of a table.
-use super::answer::Answer;
-use super::answer::class;
-use super::answer::one;
-use super::answer::rule;
-use super::answer::says;
-use super::input::Numbers;
 use accepts::rule_ok;
 use labels::first_bad;
 use labels::has_room;
 use labels::label_at;
 use rules::left_join;
 use rules::rule_at;
+use wire::answer::Answer;
+use wire::answer::class;
+use wire::answer::one;
+use wire::answer::rule;
+use wire::answer::says;
+use wire::input::Numbers;
 
 pub(crate) fn call(
     routine: u64,

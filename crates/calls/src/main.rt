@@ -1,28 +1,25 @@
 // Makes the calls that standard input has, and prints the answer of each and what it leaves in the lent buffers. tests/calls/README.md says how a call
 // and an answer are written, and which routine has which number.
-mod answer;
 mod export_calls;
-mod front;
-mod input;
 mod label_calls;
-mod output;
 mod table_calls;
 mod text_calls;
 mod token_calls;
 
-use answer::Answer;
-use input::Lent;
-use input::Numbers;
-use input::bools_in;
-use input::bytes_in;
-use input::numbers_in;
-use input::word_in;
-use input::words_in;
 use libc::STDOUT_FILENO;
-use output::answer_out;
-use output::bools_out;
-use output::bytes_out;
-use output::words_out;
+use wire::answer::Answer;
+use wire::front;
+use wire::input::Lent;
+use wire::input::Numbers;
+use wire::input::bools_in;
+use wire::input::bytes_in;
+use wire::input::numbers_in;
+use wire::input::word_in;
+use wire::input::words_in;
+use wire::output::answer_out;
+use wire::output::bools_out;
+use wire::output::bytes_out;
+use wire::output::words_out;
 
 // The most elements that a call lends of each buffer.
 const MOST_TEXT: usize = 40000;

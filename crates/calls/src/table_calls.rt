@@ -1,10 +1,4 @@
 // Routines over an item table and over a rule table with its labels.
-use super::answer::Answer;
-use super::answer::none;
-use super::answer::one;
-use super::answer::refused;
-use super::answer::says;
-use super::input::Numbers;
 use accepts::rules_ok;
 use checker::Checked;
 use checker::check;
@@ -18,6 +12,12 @@ use rules::Rule;
 use rules::rule_at;
 use solver::Solved;
 use solver::solve;
+use wire::answer::Answer;
+use wire::answer::none;
+use wire::answer::one;
+use wire::answer::refused;
+use wire::answer::says;
+use wire::input::Numbers;
 
 pub(crate) fn call(
     routine: u64,

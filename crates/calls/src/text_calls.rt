@@ -1,15 +1,15 @@
 // Routines from text to tables and labels and back.
-use super::answer::Answer;
-use super::answer::one;
-use super::answer::refused;
-use super::answer::two;
-use super::input::Numbers;
 use answers::answer;
 use assign::Assigned;
 use assign::assign;
 use reader::ReadBook;
 use reader::read;
 use rules::Head;
+use wire::answer::Answer;
+use wire::answer::one;
+use wire::answer::refused;
+use wire::answer::two;
+use wire::input::Numbers;
 use writer::Written;
 use writer::write;
 use writer::write_labels;

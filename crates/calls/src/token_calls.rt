@@ -1,10 +1,4 @@
 // Routines over the tokens of a text.
-use super::answer::Answer;
-use super::answer::none;
-use super::answer::one;
-use super::answer::three;
-use super::answer::two;
-use super::input::Numbers;
 use classes::Class;
 use keys::ReadKey;
 use keys::key_number;
@@ -20,6 +14,12 @@ use tokens::ReadName;
 use tokens::read_class;
 use tokens::read_count;
 use tokens::read_name;
+use wire::answer::Answer;
+use wire::answer::none;
+use wire::answer::one;
+use wire::answer::three;
+use wire::answer::two;
+use wire::input::Numbers;
 
 pub(crate) fn reading(routine: u64, n: Numbers, text: &[u8]) -> Answer {
     let at = n.a as usize;

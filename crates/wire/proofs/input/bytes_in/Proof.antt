@@ -1,10 +1,10 @@
--- `words_in` meets its contract. Assumes nothing.
+-- `bytes_in` meets its contract. Assumes nothing.
 use mathlib.Core.Path.{_≡_}
 use Prim.Native.Nat.{_-_}
 use lib.ListN.{length}
 use borrow.Author.Needs.{needs}
-use Rattle.calls.proofs.input.words_in.Statement.{statement}
-use Rattle.calls.proofs.input.words_in.Tie as tie
+use Rattle.wire.proofs.input.bytes_in.Statement.{statement}
+use Rattle.wire.proofs.input.bytes_in.Tie as tie
 
 abbrev Inv-loop : tie.InvT-loop
 Inv-loop buf₀ sizes good₀ i₀ buf good i = length buf ≡ length buf₀
@@ -21,8 +21,8 @@ loop-holds c = search needs
 word-in-requires : tie.Need-word-in-requires Inv-loop μ-loop
 word-in-requires c κs = search needs
 
-mul-buf : tie.Need-mul-buf Inv-loop μ-loop
-mul-buf c = search needs
+cast-buf : tie.Need-cast-buf Inv-loop μ-loop
+cast-buf c = search needs
 
 slice-write-buf : tie.Need-slice-write-buf Inv-loop μ-loop
 slice-write-buf c = search needs
@@ -42,8 +42,8 @@ same-length c = search needs
 returns : tie.Need-returns Inv-loop μ-loop
 returns c = search needs
 
-pub words-in-spec : {M : Type 1} → statement M
-words-in-spec =
+pub bytes-in-spec : {M : Type 1} → statement M
+bytes-in-spec =
     tie.close
     (tie.spec
     Inv-loop
@@ -51,7 +51,7 @@ words-in-spec =
     sizes-in-requires
     loop-holds
     word-in-requires
-    mul-buf
+    cast-buf
     slice-write-buf
     add-i
     loop-less

@@ -2,8 +2,8 @@
 use Prim.Native.Nat.{_≤_, _-_}
 use lib.ListN.{length}
 use borrow.Author.Needs.{needs}
-use Rattle.calls.proofs.output.bytes_out.Statement.{statement}
-use Rattle.calls.proofs.output.bytes_out.Tie as tie
+use Rattle.wire.proofs.output.bytes_out.Statement.{statement}
+use Rattle.wire.proofs.output.bytes_out.Tie as tie
 
 abbrev Inv-loop : tie.InvT-loop
 Inv-loop bytes chunk₀ at₀ i₀ chunk at i = i ≤ length bytes

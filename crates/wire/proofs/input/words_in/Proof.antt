@@ -1,10 +1,10 @@
--- `bools_in` meets its contract. Assumes nothing.
+-- `words_in` meets its contract. Assumes nothing.
 use mathlib.Core.Path.{_≡_}
 use Prim.Native.Nat.{_-_}
 use lib.ListN.{length}
 use borrow.Author.Needs.{needs}
-use Rattle.calls.proofs.input.bools_in.Statement.{statement}
-use Rattle.calls.proofs.input.bools_in.Tie as tie
+use Rattle.wire.proofs.input.words_in.Statement.{statement}
+use Rattle.wire.proofs.input.words_in.Tie as tie
 
 abbrev Inv-loop : tie.InvT-loop
 Inv-loop buf₀ sizes good₀ i₀ buf good i = length buf ≡ length buf₀
@@ -20,6 +20,9 @@ loop-holds c = search needs
 
 word-in-requires : tie.Need-word-in-requires Inv-loop μ-loop
 word-in-requires c κs = search needs
+
+mul-buf : tie.Need-mul-buf Inv-loop μ-loop
+mul-buf c = search needs
 
 slice-write-buf : tie.Need-slice-write-buf Inv-loop μ-loop
 slice-write-buf c = search needs
@@ -39,8 +42,8 @@ same-length c = search needs
 returns : tie.Need-returns Inv-loop μ-loop
 returns c = search needs
 
-pub bools-in-spec : {M : Type 1} → statement M
-bools-in-spec =
+pub words-in-spec : {M : Type 1} → statement M
+words-in-spec =
     tie.close
     (tie.spec
     Inv-loop
@@ -48,6 +51,7 @@ bools-in-spec =
     sizes-in-requires
     loop-holds
     word-in-requires
+    mul-buf
     slice-write-buf
     add-i
     loop-less

@@ -1,20 +1,20 @@
 // The front of a buffer, to be lent: so many elements, or all where there are fewer.
 
-pub(crate) fn bytes(buf: &mut [u8], n: usize) -> &mut [u8] {
+pub fn bytes(buf: &mut [u8], n: usize) -> &mut [u8] {
     if buf.len() < n {
         return buf;
     }
     &mut buf[0..n]
 }
 
-pub(crate) fn words(buf: &mut [u64], n: usize) -> &mut [u64] {
+pub fn words(buf: &mut [u64], n: usize) -> &mut [u64] {
     if buf.len() < n {
         return buf;
     }
     &mut buf[0..n]
 }
 
-pub(crate) fn bools(buf: &mut [bool], n: usize) -> &mut [bool] {
+pub fn bools(buf: &mut [bool], n: usize) -> &mut [bool] {
     if buf.len() < n {
         return buf;
     }

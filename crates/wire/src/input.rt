@@ -14,14 +14,14 @@ const LINE: usize = 17;
 const LEVEL: usize = 2;
 
 // One word: its value, whether its line has the form, and whether the input had ended before it.
-pub(crate) struct Word {
+pub struct Word {
     pub value: u64,
     pub good: bool,
     pub ended: bool,
 }
 
 // The six numbers of a call, and whether they have the form.
-pub(crate) struct Numbers {
+pub struct Numbers {
     pub a: u64,
     pub b: u64,
     pub c: u64,
@@ -32,7 +32,7 @@ pub(crate) struct Numbers {
 }
 
 // How many elements of a buffer a call lends, and whether they were given in the form.
-pub(crate) struct Lent {
+pub struct Lent {
     pub room: usize,
     pub good: bool,
 }
@@ -45,7 +45,7 @@ struct Sizes {
 }
 
 // The next word. Its digits are read as the marks of a class.
-pub(crate) fn word_in() -> Word {
+pub fn word_in() -> Word {
     let mut line = [0u8; LINE];
     let n = io::read_full(STDIN_FILENO, &mut line);
     let ended = n == 0;
@@ -67,7 +67,7 @@ pub(crate) fn word_in() -> Word {
 }
 
 // The numbers of a call.
-pub(crate) fn numbers_in() -> Numbers {
+pub fn numbers_in() -> Numbers {
     let a = word_in();
     let b = word_in();
     let c = word_in();
@@ -115,7 +115,7 @@ fn no_sizes() -> Sizes
 }
 
 // The bytes of a buffer.
-pub(crate) fn bytes_in(buf: &mut [u8]) -> Lent {
+pub fn bytes_in(buf: &mut [u8]) -> Lent {
     let sizes = sizes_in(buf.len());
     let mut good = sizes.good;
     let mut i = 0;
@@ -130,7 +130,7 @@ pub(crate) fn bytes_in(buf: &mut [u8]) -> Lent {
 }
 
 // The words of a buffer.
-pub(crate) fn words_in(buf: &mut [u64]) -> Lent {
+pub fn words_in(buf: &mut [u64]) -> Lent {
     let sizes = sizes_in(buf.len());
     let mut good = sizes.good;
     let mut i = 0;
@@ -145,7 +145,7 @@ pub(crate) fn words_in(buf: &mut [u64]) -> Lent {
 }
 
 // The bools of a buffer.
-pub(crate) fn bools_in(buf: &mut [bool]) -> Lent {
+pub fn bools_in(buf: &mut [bool]) -> Lent {
     let sizes = sizes_in(buf.len());
     let mut good = sizes.good;
     let mut i = 0;

@@ -7,7 +7,7 @@ use rules::Rule;
 use rules::WORDS;
 
 // The refusal's number, 0 for a success; its place, or which success it is; and the values of a success, as many as are counted. A rule has the most.
-pub(crate) struct Answer {
+pub struct Answer {
     pub refusal: u64,
     pub which: u64,
     pub count: usize,
@@ -15,7 +15,7 @@ pub(crate) struct Answer {
 }
 
 // A refusal.
-pub(crate) fn refused(refusal: Refusal) -> Answer {
+pub fn refused(refusal: Refusal) -> Answer {
     let fault = refusal.fault;
     Answer {
         refusal: fault_number(fault),
@@ -26,34 +26,34 @@ pub(crate) fn refused(refusal: Refusal) -> Answer {
 }
 
 // Successes with no value, one, two and three.
-pub(crate) fn none(which: u64) -> Answer {
+pub fn none(which: u64) -> Answer {
     success(which, 0, 0, 0, 0)
 }
 
-pub(crate) fn one(which: u64, first: u64) -> Answer {
+pub fn one(which: u64, first: u64) -> Answer {
     success(which, 1, first, 0, 0)
 }
 
-pub(crate) fn two(which: u64, first: u64, second: u64) -> Answer {
+pub fn two(which: u64, first: u64, second: u64) -> Answer {
     success(which, 2, first, second, 0)
 }
 
-pub(crate) fn three(which: u64, first: u64, second: u64, third: u64) -> Answer {
+pub fn three(which: u64, first: u64, second: u64, third: u64) -> Answer {
     success(which, 3, first, second, third)
 }
 
 // Yes or no.
-pub(crate) fn says(b: bool) -> Answer {
+pub fn says(b: bool) -> Answer {
     one(0, bit(b))
 }
 
 // A class.
-pub(crate) fn class(class: Class) -> Answer {
+pub fn class(class: Class) -> Answer {
     two(0, class.level, class.marks)
 }
 
 // The words of a rule.
-pub(crate) fn rule(rule: Rule) -> Answer {
+pub fn rule(rule: Rule) -> Answer {
     let left = rule.left;
     Answer {
         refusal: 0,

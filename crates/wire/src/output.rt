@@ -1,5 +1,5 @@
 // Words of standard output: each is a line of sixteen hex digits.
-use super::answer::Answer;
+use crate::answer::Answer;
 use libc::STDOUT_FILENO;
 use puts::put;
 use scans::LF;
@@ -46,7 +46,7 @@ fn first_words(words: &[u64], n: usize) -> &[u64] {
 }
 
 // The refusal's number, its place or which success it is, and the values, their number first.
-pub(crate) fn answer_out(answer: Answer) {
+pub fn answer_out(answer: Answer) {
     let mut chunk = [0u8; CHUNK];
     let at = line(answer.refusal, &mut chunk, 0);
     let end = line(answer.which, &mut chunk, at);
@@ -56,7 +56,7 @@ pub(crate) fn answer_out(answer: Answer) {
 }
 
 // A buffer of bytes: its room, and each of them.
-pub(crate) fn bytes_out(bytes: &[u8]) {
+pub fn bytes_out(bytes: &[u8]) {
     let mut chunk = [0u8; CHUNK];
     let mut at = line(bytes.len() as u64, &mut chunk, 0);
     let mut i = 0;
@@ -68,7 +68,7 @@ pub(crate) fn bytes_out(bytes: &[u8]) {
 }
 
 // A buffer of words.
-pub(crate) fn words_out(words: &[u64]) {
+pub fn words_out(words: &[u64]) {
     let mut chunk = [0u8; CHUNK];
     let mut at = line(words.len() as u64, &mut chunk, 0);
     let mut i = 0;
@@ -80,7 +80,7 @@ pub(crate) fn words_out(words: &[u64]) {
 }
 
 // A buffer of bools, 1 for yes.
-pub(crate) fn bools_out(bools: &[bool]) {
+pub fn bools_out(bools: &[bool]) {
     let mut chunk = [0u8; CHUNK];
     let mut at = line(bools.len() as u64, &mut chunk, 0);
     let mut i = 0;
@@ -96,6 +96,6 @@ fn wide(b: u8) -> u64 {
 }
 
 // 1 for yes.
-pub(crate) fn bit(b: bool) -> u64 {
+pub fn bit(b: bool) -> u64 {
     if b { 1 } else { 0 }
 }
