@@ -1,12 +1,11 @@
 // Makes the calls that standard input has, and prints the answer of each and what it leaves in the lent buffers. tests/calls/README.md says how a call
 // and an answer are written, and which routine has which number.
-mod export_calls;
-mod label_calls;
-mod table_calls;
-mod text_calls;
-mod token_calls;
-
 use libc::STDOUT_FILENO;
+use routines::export_calls;
+use routines::label_calls;
+use routines::table_calls;
+use routines::text_calls;
+use routines::token_calls;
 use wire::answer::Answer;
 use wire::front;
 use wire::input::Lent;

@@ -15,7 +15,7 @@ use wire::answer::refused;
 use wire::answer::three;
 use wire::input::Numbers;
 
-pub(crate) fn call(
+pub fn call(
     routine: u64,
     n: Numbers,
     text: &[u8],

@@ -14,7 +14,7 @@ use writer::Written;
 use writer::write;
 use writer::write_labels;
 
-pub(crate) fn call(
+pub fn call(
     routine: u64,
     n: Numbers,
     text: &[u8],

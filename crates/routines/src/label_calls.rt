@@ -12,13 +12,7 @@ use wire::answer::rule;
 use wire::answer::says;
 use wire::input::Numbers;
 
-pub(crate) fn call(
-    routine: u64,
-    n: Numbers,
-    rules: &[u64],
-    levels: &[u64],
-    marks: &[u64],
-) -> Answer {
+pub fn call(routine: u64, n: Numbers, rules: &[u64], levels: &[u64], marks: &[u64]) -> Answer {
     let a = n.a as usize;
     match routine {
         11 => says(has_room(levels, marks, a)),

@@ -21,7 +21,7 @@ use wire::answer::three;
 use wire::answer::two;
 use wire::input::Numbers;
 
-pub(crate) fn reading(routine: u64, n: Numbers, text: &[u8]) -> Answer {
+pub fn reading(routine: u64, n: Numbers, text: &[u8]) -> Answer {
     let at = n.a as usize;
     match routine {
         20 => name(read_name(text, at)),
@@ -32,7 +32,7 @@ pub(crate) fn reading(routine: u64, n: Numbers, text: &[u8]) -> Answer {
     }
 }
 
-pub(crate) fn putting(routine: u64, n: Numbers, items: &[u8], out: &mut [u8]) -> Answer {
+pub fn putting(routine: u64, n: Numbers, items: &[u8], out: &mut [u8]) -> Answer {
     match routine {
         25 => one(0, put(items, out, n.a as usize) as u64),
         26 => one(0, put_count(n.a, out, n.b as usize) as u64),

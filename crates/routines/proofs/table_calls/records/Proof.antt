@@ -3,8 +3,8 @@ use mathlib.Core.Path.{_≡_}
 use Prim.Native.Nat.{_-_}
 use lib.ListN.{length}
 use borrow.Author.Needs.{needs}
-use Rattle.calls.proofs.table_calls.records.Statement.{statement}
-use Rattle.calls.proofs.table_calls.records.Tie as tie
+use Rattle.routines.proofs.table_calls.records.Statement.{statement}
+use Rattle.routines.proofs.table_calls.records.Tie as tie
 
 abbrev Inv-loop : tie.InvT-loop
 Inv-loop rules list₀ r₀ list r = length list ≡ 1024

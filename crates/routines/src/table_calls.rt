@@ -19,7 +19,7 @@ use wire::answer::refused;
 use wire::answer::says;
 use wire::input::Numbers;
 
-pub(crate) fn call(
+pub fn call(
     routine: u64,
     n: Numbers,
     text: &[u8],
