@@ -1,8 +1,8 @@
 -- Copying and choosing words, one after the other.
 -- Assumes nothing.
-use mathlib.Core.Path.{_≡_, refl, sym, _∙_, ap, ap₂, subst}
+use mathlib.Core.Path.{_≡_, refl, _∙_, ap, ap₂, subst}
 use mathlib.Core.List.{List}
-use Prim.Native.Nat.{ℕ, suc, _+_, _-_, _^_, _≤_, _<_, min, max}
+use Prim.Native.Nat.{ℕ, _+_, _-_, _^_, _<_, min, max}
 use native.Mathlib.Nat.{not-suc-le-zero}
 use native.Mathlib.Omega.{arith}
 use borrow.Author.Count.{below-more}
@@ -44,7 +44,8 @@ chosen-bit a b w k s h =
     bit-or k (bitAnd a (2 ^ 64 - 1 - w)) (bitAnd b w)
     ∙ ap₂ max (bit-and k a (2 ^ 64 - 1 - w) ∙ ap (λ z. min (bit k a) z) (bit-not 64 k w s h)) (bit-and k b w)
 
-pub chosen-more : {i w : ℕ} {old before cur : List ℕ} → i < length cur → w < 2 ^ 64 → Chosen i w old before cur → Chosen (i + 1) w old before (set cur i (bitOr (bitAnd (getD cur i 0) (2 ^ 64 - 1 - w)) (bitAnd (getD old i 0) w)))
+pub chosen-more : {i w : ℕ} {old before cur : List ℕ} → i < length cur → w < 2 ^ 64 → Chosen i w old before cur
+    → Chosen (i + 1) w old before (set cur i (bitOr (bitAnd (getD cur i 0) (2 ^ 64 - 1 - w)) (bitAnd (getD old i 0) w)))
 chosen-more {i} {w} {old} {before} {cur} s h x = record {
   kept = kept-more (bitOr (bitAnd (getD cur i 0) (2 ^ 64 - 1 - w)) (bitAnd (getD old i 0) w)) (x .kept);
   bits = below-more _ _

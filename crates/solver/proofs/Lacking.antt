@@ -1,16 +1,15 @@
 -- Floors left unmet: what a class covers another lacks, part by part, and the join of that over all floors.
 -- Assumes nothing.
-use mathlib.Core.Path.{_≡_, refl, sym, _∙_, ap, subst}
+use mathlib.Core.Path.{_≡_, sym, _∙_, ap, subst}
 use mathlib.Core.List.{List}
 use Prim.Native.Nat.{ℕ, zero, suc, _+_, _-_, _^_, _≤_, _<_, min, max}
 use native.Mathlib.Nat.{not-suc-le-zero}
-use native.Mathlib.Numerals.{add-one}
 use native.Mathlib.Omega.{arith}
 use borrow.Author.Count.{below-more}
 use lib.Bits.{bitAnd}
 use Rattle.classes.specs.Bits.{bit}
 use Rattle.classes.specs.Class.{classOf, joined, lowest}
-use Rattle.classes.specs.Parts.{partCount, part, topOf}
+use Rattle.classes.specs.Parts.{partCount, part}
 use Rattle.classes.specs.declared.Class.{Class}
 use Rattle.classes.proofs.Bits.{bit-small, bit-and, bit-not}
 use Rattle.classes.proofs.Parts.{join-parts, lowest-parts}
@@ -25,7 +24,7 @@ use Rattle.rules.specs.declared.Head.{Head}
 use Rattle.rules.specs.declared.Rule as table
 use Rattle.rules.proofs.Meaning.{meaning-floor, meaning-other}
 use Rattle.solver.specs.Solving.{Buffers, labelsOf}
-use Rattle.solver.specs.InnerSteps.{valuesIn, labelsAt, bookIn, meantAt, Short, Misses, Lacks, Unheld}
+use Rattle.solver.specs.InnerSteps.{valuesIn, labelsAt, meantAt, Short, Misses, Lacks, Unheld}
 
 pub missing-made : (x y w : Class) (l : ℕ) → x .marks < 2 ^ 64 → Short (x .level) (y .level) l → w ≡ classOf l (bitAnd (y .marks) (2 ^ 64 - 1 - x .marks)) → Misses x y w
 unfolding part

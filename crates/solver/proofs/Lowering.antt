@@ -15,7 +15,7 @@ use Rattle.meaning.proofs.Same.{lowered-same}
 use Rattle.rules.specs.declared.Head.{Head}
 use Rattle.solver.specs.Solving.{Buffers}
 use Rattle.solver.specs.InnerSteps.{bookIn, valuesIn, labelsAt, Usable}
-use Rattle.solver.specs.InnerLowers.{ItemUsable, LabelsStay, NoLevelLess, TriesLevel, LoweredParts, Lowers}
+use Rattle.solver.specs.InnerLowers.{ItemUsable, LabelsStay, NoLevelLess, TriesLevel, Lowers}
 use Rattle.solver.proofs.Sweep.{SameSize, same-size, size-trans, usable-kept, usable-inside}
 
 pub item-kept : {h : Head} {t : List ℕ} {i : ℕ} {b c : Buffers} → ItemUsable h t i b → SameSize b c → ItemUsable h t i c

@@ -88,4 +88,9 @@ returns-4 : tie.Need-returns-4
 returns-4 c = search (says-labelled, c .slice-known4 .given, needs)
 
 pub solve-spec : {M : Type 1} → statement M
-solve-spec = tie.close (tie.spec rules-ok-requires refused-requires returns has-room-requires refused-requires-2 same-length same-length-2 returns-2 slice-aggregate-label slice-aggregate-label-2 label-requires enum-known-outcome refused-requires-3 enum-told slice-aggregate-copy copy-requires slice-aggregate-copy-2 copy-requires-2 same-length-3 same-length-4 returns-3 same-length-5 same-length-6 returns-4)
+solve-spec =
+    tie.close
+    (tie.spec rules-ok-requires refused-requires returns has-room-requires refused-requires-2 same-length same-length-2
+    returns-2 slice-aggregate-label slice-aggregate-label-2 label-requires enum-known-outcome refused-requires-3
+    enum-told slice-aggregate-copy copy-requires slice-aggregate-copy-2 copy-requires-2 same-length-3 same-length-4
+    returns-3 same-length-5 same-length-6 returns-4)

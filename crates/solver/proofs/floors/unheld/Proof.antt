@@ -35,4 +35,6 @@ returns : tie.Need-returns Inv-loop μ-loop
 returns c = search (lacks-all, needs)
 
 pub unheld-spec : {M : Type 1} → statement M
-unheld-spec = tie.close (tie.spec Inv-loop μ-loop loop-holds lacking-requires join-requires add-r loop-less loop-again returns)
+unheld-spec =
+    tie.close
+    (tie.spec Inv-loop μ-loop loop-holds lacking-requires join-requires add-r loop-less loop-again returns)

@@ -45,4 +45,7 @@ returns-3 : tie.Need-returns-3
 returns-3 c = search (all-labelled, needs)
 
 pub label-spec : {M : Type 1} → statement M
-label-spec = tie.close (tie.spec settle-requires same-length same-length-2 returns lowest-mark-requires add-t12 same-length-3 same-length-4 returns-2 lower-all-requires same-length-5 same-length-6 returns-3)
+label-spec =
+    tie.close
+    (tie.spec settle-requires same-length same-length-2 returns lowest-mark-requires add-t12 same-length-3 same-length-4
+    returns-2 lower-all-requires same-length-5 same-length-6 returns-3)

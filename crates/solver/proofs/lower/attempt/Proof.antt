@@ -43,4 +43,7 @@ returns : tie.Need-returns
 returns c = search (attempt-made, needs)
 
 pub attempt-spec : {M : Type 1} → statement M
-attempt-spec = tie.close (tie.spec copy-requires copy-requires-2 mul-levels slice-write-levels mul-marks slice-write-marks settle-requires same-length same-length-2 same-length-3 same-length-4 returns)
+attempt-spec =
+    tie.close
+    (tie.spec copy-requires copy-requires-2 mul-levels slice-write-levels mul-marks slice-write-marks settle-requires
+    same-length same-length-2 same-length-3 same-length-4 returns)

@@ -37,4 +37,7 @@ returns : tie.Need-returns Inv-loop μ-loop
 returns c = search (lowered-all, needs)
 
 pub lower-all-spec : {M : Type 1} → statement M
-lower-all-spec = tie.close (tie.spec Inv-loop μ-loop loop-holds lower-item-requires add-item loop-less loop-again same-length same-length-2 returns)
+lower-all-spec =
+    tie.close
+    (tie.spec Inv-loop μ-loop loop-holds lower-item-requires add-item loop-less loop-again same-length same-length-2
+    returns)

@@ -47,4 +47,7 @@ returns-2 : tie.Need-returns-2 Inv-loop μ-loop
 returns-2 c = search (level-past, needs)
 
 pub lower-item-spec : {M : Type 1} → statement M
-lower-item-spec = tie.close (tie.spec Inv-loop μ-loop loop-holds try-level-requires same-length same-length-2 returns add-v loop-less loop-again same-length-3 same-length-4 returns-2)
+lower-item-spec =
+    tie.close
+    (tie.spec Inv-loop μ-loop loop-holds try-level-requires same-length same-length-2 returns add-v loop-less loop-again
+    same-length-3 same-length-4 returns-2)

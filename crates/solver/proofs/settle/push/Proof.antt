@@ -41,4 +41,7 @@ returns-3 : tie.Need-returns-3
 returns-3 c = search (push-follow, needs)
 
 pub push-spec : {M : Type 1} → statement M
-push-spec = tie.close (tie.spec rule-at-requires element-copy-out-i lower-requires same-length same-length-2 returns returns-2 left-join-requires lower-requires-2 same-length-3 same-length-4 returns-3)
+push-spec =
+    tie.close
+    (tie.spec rule-at-requires element-copy-out-i lower-requires same-length same-length-2 returns returns-2
+    left-join-requires lower-requires-2 same-length-3 same-length-4 returns-3)

@@ -37,4 +37,7 @@ returns : tie.Need-returns Inv-loop μ-loop
 returns c = search (settling-end, needs)
 
 pub settle-spec : {M : Type 1} → statement M
-settle-spec = tie.close (tie.spec Inv-loop μ-loop loop-holds sweep-requires loop-less loop-again unheld-requires same-length same-length-2 returns)
+settle-spec =
+    tie.close
+    (tie.spec Inv-loop μ-loop loop-holds sweep-requires loop-less loop-again unheld-requires same-length same-length-2
+    returns)

@@ -41,4 +41,7 @@ returns : tie.Need-returns Inv-loop μ-loop
 returns c = search (swept-all, needs)
 
 pub sweep-spec : {M : Type 1} → statement M
-sweep-spec = tie.close (tie.spec Inv-loop μ-loop loop-holds turn-requires push-requires add-k loop-less loop-again same-length same-length-2 returns)
+sweep-spec =
+    tie.close
+    (tie.spec Inv-loop μ-loop loop-holds turn-requires push-requires add-k loop-less loop-again same-length
+    same-length-2 returns)
