@@ -6,4 +6,5 @@ pub mod Putting
 pub mod Taking
 pub mod Says
 pub mod Calls
+pub mod Ends
 pub mod Unique

@@ -1,0 +1,107 @@
+-- Calls on the pieces of an export come to an end, whatever the pieces hold: there are a text and a verdict to which they lead. It rests on that each record that is
+-- taken has a byte, that what waits for more is short, and that what is written of a text is no longer than the text and a line end.
+-- Assumes nothing.
+use mathlib.Core.Path.{_≡_, refl, sym, ap, subst}
+use mathlib.Core.Bool.{Bool, true, false, _&&_}
+use mathlib.Core.List.{List, [], _∷_, _++_}
+use Prim.Native.Nat.{ℕ, zero, suc, _+_, _≤_, _<_}
+use native.Mathlib.Omega.{arith}
+use lib.Dec.{eqb}
+use lib.ListN.{length, drop, replicate, length-replicate, length-append, length-drop}
+use borrow.Author.Tests.{le-ltb, ne-eqb}
+use Rattle.laws.specs.Over.{over}
+use Rattle.records.specs.Rows.{mostFields, mostBytes, lineEnd}
+use Rattle.refusals.specs.Said.{Said, refusedBy}
+use Rattle.refusals.specs.Sizes.{mostText}
+use Rattle.refusals.specs.declared.Fault.{Fault}
+use Rattle.exports.specs.Rows.{Taken, stopped, taken}
+use Rattle.exports.specs.Text.{Verdict, accepted, badRecord}
+use Rattle.exports.proofs.Fronts.{Front, waits, faulty, goes-on, front}
+use Rattle.exports.proofs.Lengths.{lines-most}
+use Rattle.exports.proofs.Taking.{taken-within}
+use Rattle.stripping.specs.Stripping.{saidCut, answerTo, madeOf, stripAnswer, StripSays}
+use Rattle.stripping.specs.Calls.{ended, RoomForEach, Calls, writes, reads, done, refuses}
+
+-- A buffer that has room for what is made of any text that is held.
+abbrev room : List ℕ
+room = replicate (mostText + lineEnd) 0
+
+-- The buffer after a call that writes.
+abbrev after : List ℕ → Bool → List Bool → List ℕ
+after l last kept = over room 0 (madeOf l last kept)
+
+-- What `strip` answers with this buffer.
+module _ (l : List ℕ) (last : Bool) (kept : List Bool) (number : ℕ) (short : length l ≤ mostText) (narrow : length kept ≤ mostFields) where
+  answer-is : stripAnswer l last kept number (length room) ≡ answerTo number (length room) (length (madeOf l last kept)) (taken last (length kept) l)
+  unfolding stripAnswer
+  answer-is = rw (le-ltb mostText (length l) short, le-ltb mostFields (length kept) narrow)
+
+  enough : length (madeOf l last kept) ≤ length room
+  enough = omega (arith, lines-most last kept l, length-replicate {A = ℕ} (mostText + lineEnd) 0)
+
+  abbrev saidOf : ℕ → Said
+  saidOf k = saidCut (taken last (length kept) l .used) (length (madeOf l last kept)) k
+
+  says-bad : taken last (length kept) l ≡ stopped true → StripSays l last kept number room (refusedBy Fault.CsvSyntax number) room
+  says-bad e = record { answer = rw (answer-is, e); out-after = refl }
+
+  says-cut : (eqb (length (taken last (length kept) l .rows)) 0 && taken last (length kept) l .faulty) ≡ false
+      → StripSays l last kept number room (saidOf (length (taken last (length kept) l .rows))) (after l last kept)
+  says-cut e = record { answer = rw (answer-is, e, le-ltb (length room) (length (madeOf l last kept)) enough); out-after = refl }
+
+  says-none : taken last (length kept) l ≡ stopped false → StripSays l last kept number room (saidOf 0) (after l last kept)
+  says-none e =
+      subst (λ (k : ℕ). StripSays l last kept number room (saidOf k) (after l last kept)) (ap (λ (t : Taken). length (t .rows)) e) (says-cut (rw e))
+
+  says-some : 0 < length (taken last (length kept) l .rows)
+      → StripSays l last kept number room (saidOf (length (taken last (length kept) l .rows))) (after l last kept)
+  says-some h = says-cut (rw (ne-eqb (length (taken last (length kept) l .rows)) 0 (λ z. omega (arith, z))))
+
+-- A text and a verdict to which calls lead.
+abbrev Ends : List Bool → ℕ → List ℕ → List (List ℕ) → Type 0
+Ends kept number held pieces = (text : List ℕ) × ((v : Verdict) × Calls kept number held pieces text v)
+
+module _ (kept : List Bool) (narrow : length kept ≤ mostFields) where
+  -- How it goes on from a text of which nothing can be taken before more of it is read.
+  abbrev Waiting : List (List ℕ) → Type 0
+  Waiting pieces =
+      (number : ℕ) (held : List ℕ) → length held < mostBytes + lineEnd → taken (ended pieces) (length kept) held ≡ stopped false → Ends kept number held pieces
+
+  one-call : (pieces : List (List ℕ)) → Waiting pieces → (number : ℕ) (held : List ℕ) → length held ≤ mostText
+      → (0 < taken (ended pieces) (length kept) held .used
+      → Ends kept (number + length (taken (ended pieces) (length kept) held .rows)) (drop (taken (ended pieces) (length kept) held .used) held) pieces)
+      → Ends kept number held pieces
+  one-call pieces wait number held short on = by (front (ended pieces) (length kept) held)
+    where
+      by : Front (ended pieces) (length kept) held → Ends kept number held pieces
+      by (waits e h) = wait number held h e
+      by (faulty e) = ([], (badRecord number, refuses (says-bad held (ended pieces) kept number short narrow e)))
+      by (goes-on some used) =
+          let rest = on used in (_, (_, writes (says-some held (ended pieces) kept number short narrow some) some (rest .1 .1)))
+
+  -- Records are taken from what is held, of which there are at most f bytes, until it waits.
+  all-calls : (pieces : List (List ℕ)) → Waiting pieces → (f number : ℕ) (held : List ℕ) → length held ≤ f → length held ≤ mostText → Ends kept number held pieces
+  all-calls pieces wait zero number held few short =
+      one-call pieces wait number held short (λ used. absurd (omega (arith, taken-within (ended pieces) (length kept) held)))
+  all-calls pieces wait (suc f) number held few short =
+      one-call pieces wait number held short
+      (λ used.
+      let t = taken (ended pieces) (length kept) held in
+      let less = length-drop (t .used) held in
+      all-calls pieces wait f (number + length (t .rows)) (drop (t .used) held) (omega (arith, less)) (omega (arith, less)))
+
+  -- Piece after piece.
+  ends : (pieces : List (List ℕ)) → RoomForEach pieces → (number : ℕ) (held : List ℕ) → length held ≤ mostText → Ends kept number held pieces
+  ends [] each number held short =
+      all-calls [] (λ m l h e. ([], (accepted, done (says-none l true kept m (omega arith) narrow e)))) (length held) number held (omega arith) short
+  ends (p ∷ ps) each number held short =
+      all-calls (p ∷ ps)
+      (λ m l h e.
+      let rest = ends ps (record { each = λ i s. each .each (suc i) (omega arith) }) m (l ++ p) (omega (arith, length-append l p, each .each 0 (omega arith))) in
+      (_, (_, reads (says-none l false kept m (omega arith) narrow e) (rest .1 .1))))
+      (length held) number held (omega arith) short
+
+  -- For every text that is held and all pieces that have room behind a record that waits, the calls end. The derivation is finite, which is what ending means.
+  pub calls-end : (number : ℕ) (held : List ℕ) (pieces : List (List ℕ)) → length held ≤ mostText → RoomForEach pieces
+      → (text : List ℕ) × ((v : Verdict) × Calls kept number held pieces text v)
+  calls-end number held pieces short each = ends pieces each number held short
