@@ -1,7 +1,7 @@
 -- Calls on the pieces of an export come to an end, whatever the pieces hold: there are a text and a verdict to which they lead. It rests on that each record that is
 -- taken has a byte, that what waits for more is short, and that what is written of a text is no longer than the text and a line end.
 -- Assumes nothing.
-use mathlib.Core.Path.{_≡_, refl, sym, ap, subst}
+use mathlib.Core.Path.{_≡_, refl, ap, subst}
 use mathlib.Core.Bool.{Bool, true, false, _&&_}
 use mathlib.Core.List.{List, [], _∷_, _++_}
 use Prim.Native.Nat.{ℕ, zero, suc, _+_, _≤_, _<_}
