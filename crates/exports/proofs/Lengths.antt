@@ -136,7 +136,7 @@ module _ (last : Bool) (kept : List Bool) where
       by (whole fs k) e ih = go (decLe (length (b ∷ l)) k)
         where
           holds : WholeHolds (length kept) (b ∷ l) fs k
-          holds = whole-holds last (length kept) (b ∷ l) (fitted (length kept) (recordAt last (length kept) (b ∷ l)) e .same)
+          holds = whole-holds last (length kept) (b ∷ l) (fitted (length kept) (recordAt last (length kept) (b ∷ l)) e)
 
           rest : List (List (List ℕ))
           rest = takenFrom f last (length kept) (drop k (b ∷ l)) .rows

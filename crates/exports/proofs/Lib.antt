@@ -1,4 +1,4 @@
--- Why it is true: that reading may be cut anywhere, and that columns held back leave no trace.
+-- Why it is true: what is taken from a text and from what comes behind it, how long what is written is, and that columns held back leave no trace.
 pub mod Fitting
 pub mod Taking
 pub mod Fronts

@@ -3,7 +3,7 @@
 -- Assumes nothing.
 use mathlib.Core.Path.{_≡_, refl, sym, ap, subst, _∙_}
 use mathlib.Core.Bool.{Bool, true}
-use mathlib.Core.List.{List, [], _∷_, _++_, append-assoc, append-nil}
+use mathlib.Core.List.{List, [], _∷_, _++_, append-nil}
 use Prim.Native.Nat.{ℕ}
 use native.Mathlib.Omega.{arith}
 use lib.ListN.{take}
@@ -24,7 +24,9 @@ use Rattle.columns.proofs.Unique.{Same, columns-unique, reader-unique}
 use Rattle.columns.proofs.Pieces.{columns-stay}
 use Rattle.stripping.specs.Calls.{allOf, ended}
 use Rattle.stripping.proofs.Calls.{calls-strip}
-use Rattle.strip.specs.Runs.{LentRoom, Opened, Opens, OpenedSays, KeptIn, RefusedFirst, by-book, by-class, by-header, LeftOf, refused-first, stripped, Runs, waits, strips, refuses, DifferHeldBack}
+use Rattle.stripping.proofs.Reading.{same-bytes}
+use Rattle.strip.specs.Runs.{LentRoom, Opened, Opens, OpenedSays, KeptIn, RefusedFirst, by-book, by-class, by-header, LeftOf, refused-first, stripped}
+use Rattle.strip.specs.Runs.{Runs, waits, strips, refuses, DifferHeldBack}
 
 -- What is said of what is held, unless it is that the header needs more, is said of the whole export.
 whole-says : {o : Opened} (held : List ℕ) (pieces : List (List ℕ)) {before : List Bool} {s : Said} {after : List Bool}
@@ -53,9 +55,8 @@ whole-kept held pieces p = record {
 -- "The routine computes the definition, however the input was cut into reads": a run leaves what is left of the whole export.
 pub runs-leave : {room : LentRoom} {book class held : List ℕ} {pieces : List (List ℕ)} {text : List ℕ} {v : Verdict} → Runs room book class held pieces text v
     → LeftOf room book class (held ++ allOf pieces) text v
-unfolding allOf
-runs-leave {room} {book} {class} {held} {text = text} {v} (waits {piece = piece} {pieces} o says run) =
-    subst (λ (x : List ℕ). LeftOf room book class x text v) (append-assoc held piece (allOf pieces)) (runs-leave run)
+runs-leave {room} {book} {class} {text = text} {v} (waits o says read run) =
+    subst (λ (x : List ℕ). LeftOf room book class x text v) (sym (same-bytes read)) (runs-leave run)
 runs-leave {held = held} {pieces} (strips p calls) = stripped (whole-kept held pieces p) (calls-strip calls)
 runs-leave {held = held} {pieces} (refuses p) = refused-first (whole-refused held pieces p)
 
@@ -79,7 +80,8 @@ opens-unique {o = o} {u} p q =
     reader = let e = reader-unique {r = Reader.Known (o .reader)} {s = Reader.Known (u .reader)} (p .known) (q .known) in cc
 
 -- The columns that are kept are the same whenever they are asked for.
-pub kept-unique : {room : LentRoom} {book class export : List ℕ} {last : Bool} {k m : List Bool} → KeptIn room book class export last k → KeptIn room book class export last m → k ≡ m
+pub kept-unique : {room : LentRoom} {book class export : List ℕ} {last : Bool} {k m : List Bool} → KeptIn room book class export last k
+    → KeptIn room book class export last m → k ≡ m
 kept-unique {room} {export = export} {last} p q =
     p .is ∙ ap (λ (n : ℕ). take n (p .after)) count ∙ ap (take (q .count)) (same .buffer) ∙ sym (q .is)
   where
@@ -99,7 +101,8 @@ no-reader : {class : List ℕ} (r : Refusal) {c : Class} → ReaderSays class (s
 no-reader r {c} p q = let e = reader-unique {r = Reader.Refused r} {s = Reader.Known c} p q in let z : _≡_ {A = ℕ} 0 1 = cc in omega arith
 
 -- Refused first, or columns are kept, and never both; and the refusal is one.
-refused-same : {room : LentRoom} {book class export : List ℕ} {last : Bool} {r s : Refusal} → RefusedFirst room book class export last r → RefusedFirst room book class export last s → r ≡ s
+refused-same : {room : LentRoom} {book class export : List ℕ} {last : Bool} {r s : Refusal} → RefusedFirst room book class export last r
+    → RefusedFirst room book class export last s → r ≡ s
 refused-same {r = r} {s} (by-book p) (by-book q) = let e = assign-unique {x = Assigned.Refused r} {y = Assigned.Refused s} p q .0 in cc
 refused-same {r = r} {s} (by-book p) (by-class q c) = absurd (never r p q)
 refused-same {r = r} {s} (by-book p) (by-header o fits q) = absurd (never r p (o .assigned))
@@ -113,7 +116,8 @@ refused-same {room} {export = export} {last} {r} {s} (by-header p x y) (by-heade
     let e = columns-unique {r = Columns.Refused r} {s = Columns.Refused s} y moved .answer in
     cc
 
-not-kept : {room : LentRoom} {book class export : List ℕ} {last : Bool} {r : Refusal} {k : List Bool} → RefusedFirst room book class export last r → KeptIn room book class export last k → ⊥
+not-kept : {room : LentRoom} {book class export : List ℕ} {last : Bool} {r : Refusal} {k : List Bool} → RefusedFirst room book class export last r
+    → KeptIn room book class export last k → ⊥
 not-kept {r = r} (by-book p) q = never r p (q .opens .assigned)
 not-kept {r = r} (by-class p c) q = no-reader r c (q .opens .known)
 not-kept {room} {export = export} {last} {r} (by-header {after = after} p x y) q =

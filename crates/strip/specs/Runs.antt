@@ -3,7 +3,7 @@
 -- Assumes nothing.
 use mathlib.Core.Path.{_≡_}
 use mathlib.Core.Bool.{Bool, true, false}
-use mathlib.Core.List.{List, [], _∷_, _++_}
+use mathlib.Core.List.{List, []}
 use Prim.Native.Nat.{ℕ, _≤_}
 use lib.ListN.{length, take}
 use Rattle.classes.specs.declared.Class.{Class}
@@ -19,7 +19,7 @@ use Rattle.columns.specs.Reader.{saidReader, ReaderSays}
 use Rattle.columns.specs.declared.Reader.{Reader}
 use Rattle.columns.specs.Columns.{saidKept, saidMore, saidColumns, ColumnsSays}
 use Rattle.columns.specs.declared.Columns.{Columns}
-use Rattle.stripping.specs.Calls.{ended, Calls}
+use Rattle.stripping.specs.Calls.{ended, NextRead, Calls}
 
 -- The buffers that are lent for the items, their labels and the columns.
 pub record LentRoom : Type 0 where
@@ -67,13 +67,13 @@ pub data LeftOf (room : LentRoom) (book class export : List ℕ) : List ℕ → 
   stripped : {kept : List Bool} {text : List ℕ} {v : Verdict} → KeptIn room book class export true kept →
       strippedFrom kept 1 export ≡ record { text = text; verdict = v } → LeftOf room book class export text v
 
--- The calls of a run over the bytes that are held and the pieces to come, at first with nothing held. Once the book is labelled and the class is read, it is asked for
--- the columns of what is held. Where the header does not end in it, a piece is read behind it and it is asked again. With the columns that are kept `strip` is called
--- from record 1 on. A refusal ends it, before another piece is read.
+-- A run over the bytes that are held and the pieces to come, which starts with nothing held. The book being labelled and the class read, `kept_columns` is called on what is
+-- held. Where the header does not end in it, there is a read, and it is called again. With the columns that are kept `strip` is called, from record 1 on. A refusal ends the
+-- run, so that what is held is judged before the next read.
 pub data Runs (room : LentRoom) (book class : List ℕ) : List ℕ → List (List ℕ) → List ℕ → Verdict → Type 0 where
-  waits : {held piece : List ℕ} {pieces : List (List ℕ)} {text : List ℕ} {v : Verdict} {o : Opened} {after : List Bool} → Opens room book class o →
-      OpenedSays o held false (room .columns) saidMore after → Runs room book class (held ++ piece) pieces text v →
-      Runs room book class held (piece ∷ pieces) text v
+  waits : {held held′ : List ℕ} {pieces pieces′ : List (List ℕ)} {text : List ℕ} {v : Verdict} {o : Opened} {after : List Bool} → Opens room book class o →
+      OpenedSays o held false (room .columns) saidMore after → NextRead held pieces held′ pieces′ → Runs room book class held′ pieces′ text v →
+      Runs room book class held pieces text v
   strips : {held : List ℕ} {pieces : List (List ℕ)} {text : List ℕ} {v : Verdict} {kept : List Bool} → KeptIn room book class held (ended pieces) kept →
       Calls kept 1 held pieces text v → Runs room book class held pieces text v
   refuses : {held : List ℕ} {pieces : List (List ℕ)} {r : Refusal} → RefusedFirst room book class held (ended pieces) r →

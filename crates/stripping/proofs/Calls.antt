@@ -3,7 +3,7 @@
 -- Assumes nothing.
 use mathlib.Core.Path.{_≡_, refl, sym, ap, subst, _∙_}
 use mathlib.Core.Bool.{Bool, true, false, false≢true, cond, _&&_}
-use mathlib.Core.List.{List, [], _∷_, _++_, append-assoc}
+use mathlib.Core.List.{List, [], _∷_, _++_}
 use Prim.Native.Nat.{ℕ, _+_, _≤_}
 use native.Mathlib.Nat.{zero-add}
 use native.Mathlib.Omega.{arith}
@@ -24,6 +24,7 @@ use Rattle.exports.proofs.HeldBack.{held-back-leaves-no-trace}
 use Rattle.stripping.specs.Stripping.{saidCut, answerTo, madeOf, stripAnswer, StripSays}
 use Rattle.stripping.specs.Calls.{allOf, ended, Calls, writes, reads, done, refuses}
 use Rattle.stripping.proofs.Says.{first-bad}
+use Rattle.stripping.proofs.Reading.{same-bytes}
 
 -- What an answer says of what was taken.
 record TextIs (room n : ℕ) (t : Taken) (u m k : ℕ) : Type 0 where
@@ -112,8 +113,7 @@ calls-strip {kept} {number} {held} {pieces} (writes {text = text} {v} {used} {n}
   where
     is : TextIs (length out) (length (madeOf held (ended pieces) kept)) (taken (ended pieces) (length kept) held) used n k
     is = says-is held (ended pieces) kept number out (saidCut used n k) out′ says
-calls-strip {kept} {number} {held} (reads {piece = piece} {pieces} says p) =
-    ap (strippedFrom kept number) (sym (append-assoc held piece (allOf pieces))) ∙ calls-strip p
+calls-strip {kept} {number} (reads says read p) = ap (strippedFrom kept number) (same-bytes read) ∙ calls-strip p
 calls-strip {kept} {number} {held} (done {used = used} {n} {out} {out′} says) =
     after-all kept number held none (sound (taken true (length kept) held .faulty) none (is .good))
   where

@@ -3,11 +3,11 @@
 -- Assumes nothing.
 use mathlib.Core.Path.{_≡_, refl, ap, subst}
 use mathlib.Core.Bool.{Bool, true, false, _&&_}
-use mathlib.Core.List.{List, [], _∷_, _++_}
+use mathlib.Core.List.{List, [], _∷_}
 use Prim.Native.Nat.{ℕ, zero, suc, _+_, _≤_, _<_}
 use native.Mathlib.Omega.{arith}
 use lib.Dec.{eqb}
-use lib.ListN.{length, drop, replicate, length-replicate, length-append, length-drop}
+use lib.ListN.{length, drop, replicate, length-replicate, length-drop}
 use borrow.Author.Tests.{le-ltb, ne-eqb}
 use Rattle.laws.specs.Over.{over}
 use Rattle.records.specs.Rows.{mostFields, mostBytes, lineEnd}
@@ -16,11 +16,12 @@ use Rattle.refusals.specs.Sizes.{mostText}
 use Rattle.refusals.specs.declared.Fault.{Fault}
 use Rattle.exports.specs.Rows.{Taken, stopped, taken}
 use Rattle.exports.specs.Text.{Verdict, accepted, badRecord}
-use Rattle.exports.proofs.Fronts.{Front, waits, faulty, goes-on, front}
+use Rattle.exports.proofs.Fronts.{AtFront, nothing-yet, bad-first, some-taken, at-front}
 use Rattle.exports.proofs.Lengths.{lines-most}
 use Rattle.exports.proofs.Taking.{taken-within}
 use Rattle.stripping.specs.Stripping.{saidCut, answerTo, madeOf, stripAnswer, StripSays}
-use Rattle.stripping.specs.Calls.{ended, RoomForEach, Calls, writes, reads, done, refuses}
+use Rattle.stripping.specs.Calls.{ended, Calls, writes, reads, done, refuses}
+use Rattle.stripping.proofs.Reading.{leftToRead, read-fits, read-less, some-read}
 
 -- A buffer that has room for what is made of any text that is held.
 abbrev room : List ℕ
@@ -71,12 +72,12 @@ module _ (kept : List Bool) (narrow : length kept ≤ mostFields) where
       → (0 < taken (ended pieces) (length kept) held .used
       → Ends kept (number + length (taken (ended pieces) (length kept) held .rows)) (drop (taken (ended pieces) (length kept) held .used) held) pieces)
       → Ends kept number held pieces
-  one-call pieces wait number held short on = by (front (ended pieces) (length kept) held)
+  one-call pieces wait number held short on = by (at-front (ended pieces) (length kept) held)
     where
-      by : Front (ended pieces) (length kept) held → Ends kept number held pieces
-      by (waits e h) = wait number held h e
-      by (faulty e) = ([], (badRecord number, refuses (says-bad held (ended pieces) kept number short narrow e)))
-      by (goes-on some used) =
+      by : AtFront (ended pieces) (length kept) held → Ends kept number held pieces
+      by (nothing-yet e h) = wait number held h e
+      by (bad-first e) = ([], (badRecord number, refuses (says-bad held (ended pieces) kept number short narrow e)))
+      by (some-taken some used) =
           let rest = on used in (_, (_, writes (says-some held (ended pieces) kept number short narrow some) some (rest .1 .1)))
 
   -- Records are taken from what is held, of which there are at most f bytes, until it waits.
@@ -90,18 +91,24 @@ module _ (kept : List Bool) (narrow : length kept ≤ mostFields) where
       let less = length-drop (t .used) held in
       all-calls pieces wait f (number + length (t .rows)) (drop (t .used) held) (omega (arith, less)) (omega (arith, less)))
 
-  -- Piece after piece.
-  ends : (pieces : List (List ℕ)) → RoomForEach pieces → (number : ℕ) (held : List ℕ) → length held ≤ mostText → Ends kept number held pieces
-  ends [] each number held short =
+  -- All calls up to a read; and read after read, of which there are at most f.
+  one-read : (pieces : List (List ℕ))
+      → ((pieces′ : List (List ℕ)) → leftToRead pieces′ < leftToRead pieces → (number : ℕ) (held : List ℕ) → length held ≤ mostText → Ends kept number held pieces′)
+      → (number : ℕ) (held : List ℕ) → length held ≤ mostText → Ends kept number held pieces
+  one-read [] on number held short =
       all-calls [] (λ m l h e. ([], (accepted, done (says-none l true kept m (omega arith) narrow e)))) (length held) number held (omega arith) short
-  ends (p ∷ ps) each number held short =
+  one-read (p ∷ ps) on number held short =
       all-calls (p ∷ ps)
       (λ m l h e.
-      let rest = ends ps (record { each = λ i s. each .each (suc i) (omega arith) }) m (l ++ p) (omega (arith, length-append l p, each .each 0 (omega arith))) in
-      (_, (_, reads (says-none l false kept m (omega arith) narrow e) (rest .1 .1))))
+      let next = some-read l p ps (omega arith) in
+      let rest = on (next .to-come) (read-less (omega arith) (next .read)) m (next .holds) (read-fits (next .read)) in
+      (_, (_, reads (says-none l false kept m (omega arith) narrow e) (next .read) (rest .1 .1))))
       (length held) number held (omega arith) short
 
-  -- For every text that is held and all pieces that have room behind a record that waits, the calls end. The derivation is finite, which is what ending means.
-  pub calls-end : (number : ℕ) (held : List ℕ) (pieces : List (List ℕ)) → length held ≤ mostText → RoomForEach pieces
-      → (text : List ℕ) × ((v : Verdict) × Calls kept number held pieces text v)
-  calls-end number held pieces short each = ends pieces each number held short
+  ends : (f : ℕ) (pieces : List (List ℕ)) → leftToRead pieces ≤ f → (number : ℕ) (held : List ℕ) → length held ≤ mostText → Ends kept number held pieces
+  ends zero pieces small = one-read pieces (λ pieces′ less. absurd (omega arith))
+  ends (suc f) pieces small = one-read pieces (λ pieces′ less. ends f pieces′ (omega arith))
+
+  -- For every text that is held and all pieces that come behind it the calls end. The derivation is finite, which is what ending means.
+  pub calls-end : (number : ℕ) (held : List ℕ) (pieces : List (List ℕ)) → length held ≤ mostText → (text : List ℕ) × ((v : Verdict) × Calls kept number held pieces text v)
+  calls-end number held pieces short = ends (leftToRead pieces) pieces (omega arith) number held short
