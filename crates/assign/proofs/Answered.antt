@@ -37,9 +37,9 @@ use Rattle.assign.specs.declared.Assigned.{Assigned}
 use Rattle.assign.specs.Assigning.{saidHead, saidAssigned, Lent, short-items, unsolved, solved, AssignSays, unread, read}
 
 -- An answer: a refusal, or labels.
-pub data Answered (l : List ℕ) (before : Lent) : Type 0 where
-  refuses : (r : Refusal) {after : Lent} → AssignSays l before (saidAssigned (Assigned.Refused r)) after → Answered l before
-  labels : {h : Head} {after : Lent} → AssignSays l before (saidHead h) after → Answered l before
+pub data AssignAnswered (l : List ℕ) (before : Lent) : Type 0 where
+  refuses-book : (r : Refusal) {after : Lent} → AssignSays l before (saidAssigned (Assigned.Refused r)) after → AssignAnswered l before
+  labels-book : {h : Head} {after : Lent} → AssignSays l before (saidHead h) after → AssignAnswered l before
 
 -- The first n values of a function over the front of a buffer.
 module _ (n : ℕ) (f : ℕ → ℕ) (d : List ℕ) (room : n ≤ length d) where
@@ -96,22 +96,22 @@ module _ (l : List ℕ) (before : Lent) {h : Head} (e : readWhole l ≡ ReadBook
   ok = read-tables l e .rules
 
   by-labels : h .items * nameRoom ≤ length (before .items) → Room (h .items) (before .labels .levels) (before .labels .marks)
-      → ((f : ℕ → Class) × Wanted classes (bookOf h (readText l .words)) f) ⊎ ((p : ℕ) × Refused classParts (bookOf h (readText l .words)) p) → Answered l before
-  by-labels fits room (inl x) = labels (read e (solved fits (writes ok room (x .1))))
+      → ((f : ℕ → Class) × Wanted classes (bookOf h (readText l .words)) f) ⊎ ((p : ℕ) × Refused classParts (bookOf h (readText l .words)) p) → AssignAnswered l before
+  by-labels fits room (inl x) = labels-book (read e (solved fits (writes ok room (x .1))))
   by-labels fits room (inr x) =
-      refuses (record { fault = Fault.NoLabelling; place = x .0 })
+      refuses-book (record { fault = Fault.NoLabelling; place = x .0 })
       (read e (unsolved fits (no-labelling (record { accepted = ok; room = room; unlabelled = x .1; untouched = refl }))))
 
-  by-room : Dec (h .items * nameRoom ≤ length (before .items)) → Dec (Room (h .items) (before .labels .levels) (before .labels .marks)) → Answered l before
-  by-room (no short) room = refuses (record { fault = Fault.NoRoom; place = 0 }) (read e (short-items (omega arith)))
+  by-room : Dec (h .items * nameRoom ≤ length (before .items)) → Dec (Room (h .items) (before .labels .levels) (before .labels .marks)) → AssignAnswered l before
+  by-room (no short) room = refuses-book (record { fault = Fault.NoRoom; place = 0 }) (read e (short-items (omega arith)))
   by-room (yes fits) (no short) =
-      refuses (record { fault = Fault.NoRoom; place = 0 }) (read e (unsolved fits (no-room (record { accepted = ok; short = short; untouched = refl }))))
+      refuses-book (record { fault = Fault.NoRoom; place = 0 }) (read e (unsolved fits (no-room (record { accepted = ok; short = short; untouched = refl }))))
   by-room (yes fits) (yes room) = by-labels fits room (wanted-or-refused (bookOf h (readText l .words)) (table-inside ok))
 
-pub assign-answered : (l : List ℕ) (before : Lent) → Answered l before
+pub assign-answered : (l : List ℕ) (before : Lent) → AssignAnswered l before
 assign-answered l before = by (readWhole l) refl
   where
-    by : (x : ReadBook) → readWhole l ≡ x → Answered l before
-    by (ReadBook.Refused r) e = refuses r (unread e)
+    by : (x : ReadBook) → readWhole l ≡ x → AssignAnswered l before
+    by (ReadBook.Refused r) e = refuses-book r (unread e)
     by (ReadBook.Book h) e =
         by-room l before e (decLe (h .items * nameRoom) (length (before .items))) (room-decided (h .items) (before .labels .levels) (before .labels .marks))

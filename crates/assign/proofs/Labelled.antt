@@ -61,15 +61,15 @@ module _ (l : List ℕ) {h : Head} (whole : readWhole l ≡ ReadBook.Book h) (be
   }
 
 -- What is told by what is said.
-abbrev Told : List ℕ → Lent → Said → Type 0
-Told l b (success c values) = LabelledAs l (record { items = getD values 0 0; rules = getD values 1 0 }) b
-Told l b (refused n p) = Unit {0}
+abbrev IfLabelled : List ℕ → Lent → Said → Type 0
+IfLabelled l b (success c values) = LabelledAs l (record { items = getD values 0 0; rules = getD values 1 0 }) b
+IfLabelled l b (refused n p) = Unit {0}
 
-told : {l : List ℕ} {before : Lent} {s : Said} {after : Lent} → AssignSays l before s after → Told l after s
-told (unread e) = tt
-told (read e (short-items short)) = tt
-told (read e (unsolved fits x)) = tt
-told {l} {before} (read e (solved fits (writes-labels x))) = labelled-as l e before fits x
+if-labelled : {l : List ℕ} {before : Lent} {s : Said} {after : Lent} → AssignSays l before s after → IfLabelled l after s
+if-labelled (unread e) = tt
+if-labelled (read e (short-items short)) = tt
+if-labelled (read e (unsolved fits x)) = tt
+if-labelled {l} {before} (read e (solved fits (writes-labels x))) = labelled-as l e before fits x
 
 pub labelled-right : {l : List ℕ} {before : Lent} {h : Head} {after : Lent} → AssignSays l before (saidHead h) after → LabelledAs l h after
-labelled-right p = told p
+labelled-right p = if-labelled p

@@ -1,4 +1,4 @@
--- There is an answer to every header and to every class: whether each name is an item and none is repeated is decided, and so is whether a class covers a label. It
+-- There is an answer to every header: whether each name is an item and none is repeated is decided, and so is whether a class covers a label. It
 -- rests on that looking up a name computes, that names are lists of numbers, and that covering is `≤` in each part.
 -- Assumes nothing.
 use mathlib.Core.Path.{_≡_, refl, sym, ap, subst, _∙_}
@@ -104,10 +104,10 @@ module _ (t : List ℕ) (n : ℕ) where
     }
 
 -- An answer to an export: a refusal; that more is needed, and then the text is short and not the last; or the columns, no more than a record has fields.
-pub data Answered (Says : Said → List Bool → Type 0) (export : List ℕ) (last : Bool) : Type 0 where
-  refuses : (r : Refusal) {after : List Bool} → Says (saidColumns (Columns.Refused r)) after → Answered Says export last
-  waits : {after : List Bool} → Says saidMore after → last ≡ false → length export < mostBytes + lineEnd → Answered Says export last
-  knows : {k : ℕ} {after : List Bool} → Says (saidKept k) after → length (take k after) ≤ mostFields → Answered Says export last
+pub data ColumnsAnswered (Says : Said → List Bool → Type 0) (export : List ℕ) (last : Bool) : Type 0 where
+  refuses-export : (r : Refusal) {after : List Bool} → Says (saidColumns (Columns.Refused r)) after → ColumnsAnswered Says export last
+  needs-more : {after : List Bool} → Says saidMore after → last ≡ false → length export < mostBytes + lineEnd → ColumnsAnswered Says export last
+  knows-columns : {k : ℕ} {after : List Bool} → Says (saidKept k) after → length (take k after) ≤ mostFields → ColumnsAnswered Says export last
 
 abbrev refusalFor : Fault → ℕ → Refusal
 refusalFor f p = record { fault = f; place = p }
@@ -142,15 +142,15 @@ header-few false [] e = let z : _≡_ {A = ℕ} 0 1 = cc in absurd (omega arith)
 header-few last (b ∷ l) e = whole-holds last mostFields (b ∷ l) e .few
 
 module _ (t : List ℕ) (n : ℕ) (labels : ℕ → Class) (reader : Class) (export : List ℕ) (last : Bool) (before : List Bool) where
-  header-answered : Answered (HeaderSays t n labels reader export last before) export last
+  header-answered : ColumnsAnswered (HeaderSays t n labels reader export last before) export last
   header-answered = by (headerAt last export) refl
     where
       named : (fs : List (List ℕ)) (k : ℕ) → headerAt last export ≡ whole fs k → Dec (HeaderOk t n fs) → Dec (length fs ≤ length before)
-          → Answered (HeaderSays t n labels reader export last before) export last
-      named fs k e (no f) room = refuses (refusalFor Fault.CsvHeader 1) (bad-names e f)
-      named fs k e (yes ok) (no short) = refuses (refusalFor Fault.NoRoom 0) (no-room e ok (omega arith))
+          → ColumnsAnswered (HeaderSays t n labels reader export last before) export last
+      named fs k e (no f) room = refuses-export (refusalFor Fault.CsvHeader 1) (bad-names e f)
+      named fs k e (yes ok) (no short) = refuses-export (refusalFor Fault.NoRoom 0) (no-room e ok (omega arith))
       named fs k e (yes ok) (yes room) =
-          knows (keeps e ok room (all-kept t n labels reader fs))
+          knows-columns (keeps e ok room (all-kept t n labels reader fs))
           (omega (
             arith,
             header-few last export e,
@@ -158,20 +158,20 @@ module _ (t : List ℕ) (n : ℕ) (labels : ℕ → Class) (reader : Class) (exp
             length-map fs (keepsField t n labels reader),
           ))
 
-      by : (r : Record) → headerAt last export ≡ r → Answered (HeaderSays t n labels reader export last before) export last
+      by : (r : Record) → headerAt last export ≡ r → ColumnsAnswered (HeaderSays t n labels reader export last before) export last
       by (whole fs k) e = named fs k e (names-decided t n fs) (decLe (length fs) (length before))
-      by more e = waits (more-header e) (unfinished-not-last last export e) (unfinished-short last export e)
-      by bad e = refuses (refusalFor Fault.CsvSyntax 1) (bad-header e)
+      by more e = needs-more (more-header e) (unfinished-not-last last export e) (unfinished-short last export e)
+      by bad e = refuses-export (refusalFor Fault.CsvSyntax 1) (bad-header e)
 
 -- Of labelled items that pass the tests there is an answer to every export, with any buffer.
 pub columns-answered : {t : List ℕ} {h : Head} {levels marks : List ℕ} → ItemsOk t (h .items) → Room (h .items) levels marks
     → AllBelow (LevelInRange levels) (h .items) → (reader : Class) (export : List ℕ) (last : Bool) (before : List Bool)
-    → Answered (ColumnsSays t h levels marks reader export last before) export last
+    → ColumnsAnswered (ColumnsSays t h levels marks reader export last before) export last
 columns-answered {t} {h} {levels} {marks} items room range reader export last before =
     by (header-answered t (h .items) (labelsIn levels marks) reader export last before)
   where
-    by : Answered (HeaderSays t (h .items) (labelsIn levels marks) reader export last before) export last
-        → Answered (ColumnsSays t h levels marks reader export last before) export last
-    by (refuses r p) = refuses r (headed items room range p)
-    by (waits p e short) = waits (headed items room range p) e short
-    by (knows p few) = knows (headed items room range p) few
+    by : ColumnsAnswered (HeaderSays t (h .items) (labelsIn levels marks) reader export last before) export last
+        → ColumnsAnswered (ColumnsSays t h levels marks reader export last before) export last
+    by (refuses-export r p) = refuses-export r (headed items room range p)
+    by (needs-more p e short) = needs-more (headed items room range p) e short
+    by (knows-columns p few) = knows-columns (headed items room range p) few

@@ -22,7 +22,7 @@ use Rattle.columns.specs.Columns.{saidKept, saidMore, saidColumns}
 use Rattle.columns.specs.declared.Columns.{Columns}
 use Rattle.columns.proofs.Unique.{Same, columns-unique, reader-unique}
 use Rattle.columns.proofs.Pieces.{columns-stay}
-use Rattle.stripping.specs.Calls.{allOf, ended}
+use Rattle.stripping.specs.Calls.{allOf, noneToCome}
 use Rattle.stripping.proofs.Calls.{calls-strip}
 use Rattle.stripping.proofs.Reading.{same-bytes}
 use Rattle.strip.specs.Runs.{LentRoom, Opened, Opens, OpenedSays, KeptIn, RefusedFirst, by-book, by-class, by-header, LeftOf, refused-first, stripped}
@@ -30,18 +30,18 @@ use Rattle.strip.specs.Runs.{Runs, waits, strips, refuses, DifferHeldBac
 
 -- What is said of what is held, unless it is that the header needs more, is said of the whole export.
 whole-says : {o : Opened} (held : List ℕ) (pieces : List (List ℕ)) {before : List Bool} {s : Said} {after : List Bool}
-    → OpenedSays o held (ended pieces) before s after → (s ≡ saidMore → ⊥) → OpenedSays o (held ++ allOf pieces) true before s after
+    → OpenedSays o held (noneToCome pieces) before s after → (s ≡ saidMore → ⊥) → OpenedSays o (held ++ allOf pieces) true before s after
 unfolding allOf
 whole-says {o} held [] {before} {s} {after} p h = subst (λ (x : List ℕ). OpenedSays o x true before s after) (sym (append-nil held)) p
 whole-says held (piece ∷ pieces) p h = columns-stay true held (allOf (piece ∷ pieces)) p h
 
 whole-refused : {room : LentRoom} {book class : List ℕ} (held : List ℕ) (pieces : List (List ℕ)) {r : Refusal}
-    → RefusedFirst room book class held (ended pieces) r → RefusedFirst room book class (held ++ allOf pieces) true r
+    → RefusedFirst room book class held (noneToCome pieces) r → RefusedFirst room book class (held ++ allOf pieces) true r
 whole-refused held pieces (by-book p) = by-book p
 whole-refused held pieces (by-class p q) = by-class p q
 whole-refused held pieces (by-header p room q) = by-header p room (whole-says held pieces q (λ e. let z : _≡_ {A = ℕ} 0 1 = cc in omega arith))
 
-whole-kept : {room : LentRoom} {book class : List ℕ} (held : List ℕ) (pieces : List (List ℕ)) {kept : List Bool} → KeptIn room book class held (ended pieces) kept
+whole-kept : {room : LentRoom} {book class : List ℕ} (held : List ℕ) (pieces : List (List ℕ)) {kept : List Bool} → KeptIn room book class held (noneToCome pieces) kept
     → KeptIn room book class (held ++ allOf pieces) true kept
 whole-kept held pieces p = record {
   opened = p .opened;

@@ -19,7 +19,7 @@ use Rattle.columns.specs.Reader.{saidReader, ReaderSays}
 use Rattle.columns.specs.declared.Reader.{Reader}
 use Rattle.columns.specs.Columns.{saidKept, saidMore, saidColumns, ColumnsSays}
 use Rattle.columns.specs.declared.Columns.{Columns}
-use Rattle.stripping.specs.Calls.{ended, NextRead, Calls}
+use Rattle.stripping.specs.Calls.{noneToCome, NextRead, Calls}
 
 -- The buffers that are lent for the items, their labels and the columns.
 pub record LentRoom : Type 0 where
@@ -74,9 +74,9 @@ pub data Runs (room : LentRoom) (book class : List ℕ) : List ℕ → List (Lis
   waits : {held held′ : List ℕ} {pieces pieces′ : List (List ℕ)} {text : List ℕ} {v : Verdict} {o : Opened} {after : List Bool} → Opens room book class o →
       OpenedSays o held false (room .columns) saidMore after → NextRead held pieces held′ pieces′ → Runs room book class held′ pieces′ text v →
       Runs room book class held pieces text v
-  strips : {held : List ℕ} {pieces : List (List ℕ)} {text : List ℕ} {v : Verdict} {kept : List Bool} → KeptIn room book class held (ended pieces) kept →
+  strips : {held : List ℕ} {pieces : List (List ℕ)} {text : List ℕ} {v : Verdict} {kept : List Bool} → KeptIn room book class held (noneToCome pieces) kept →
       Calls kept 1 held pieces text v → Runs room book class held pieces text v
-  refuses : {held : List ℕ} {pieces : List (List ℕ)} {r : Refusal} → RefusedFirst room book class held (ended pieces) r →
+  refuses : {held : List ℕ} {pieces : List (List ℕ)} {r : Refusal} → RefusedFirst room book class held (noneToCome pieces) r →
       Runs room book class held pieces [] (refused r)
 
 -- Two exports "differ only in columns held back": of each some columns are kept, and in these their records have the same bytes.

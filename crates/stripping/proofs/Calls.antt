@@ -22,7 +22,7 @@ use Rattle.exports.proofs.Taking.{taken-within}
 use Rattle.exports.proofs.Cuts.{Lastly, after-writing, after-refusing, after-all}
 use Rattle.exports.proofs.HeldBack.{held-back-leaves-no-trace}
 use Rattle.stripping.specs.Stripping.{saidCut, answerTo, madeOf, stripAnswer, StripSays}
-use Rattle.stripping.specs.Calls.{allOf, ended, Calls, writes, reads, done, refuses}
+use Rattle.stripping.specs.Calls.{allOf, noneToCome, Calls, writes, reads, done, refuses}
 use Rattle.stripping.proofs.Says.{first-bad}
 use Rattle.stripping.proofs.Reading.{same-bytes}
 
@@ -97,7 +97,7 @@ no-rows [] e = refl
 no-rows (r ∷ rows) e = absurd (omega (arith, e))
 
 -- Behind the last text nothing comes.
-lastly : (pieces : List (List ℕ)) → Lastly (ended pieces) (allOf pieces)
+lastly : (pieces : List (List ℕ)) → Lastly (noneToCome pieces) (allOf pieces)
 unfolding allOf
 lastly [] e = refl
 lastly (p ∷ ps) e = absurd (false≢true e)
@@ -108,11 +108,11 @@ pub calls-strip : {kept : List Bool} {number : ℕ} {held : List ℕ} {pieces : 
 unfolding allOf
 calls-strip {kept} {number} {held} {pieces} (writes {text = text} {v} {used} {n} {k} {out} {out′} says some p) =
     subst (λ (x : List ℕ). strippedFrom kept number (held ++ allOf pieces) ≡ record { text = x ++ text; verdict = v })
-    (sym (written held (ended pieces) kept number out out′ says))
-    (after-writing kept number held (allOf pieces) (ended pieces) (lastly pieces) (rw (is .count, is .used) at (calls-strip p)))
+    (sym (written held (noneToCome pieces) kept number out out′ says))
+    (after-writing kept number held (allOf pieces) (noneToCome pieces) (lastly pieces) (rw (is .count, is .used) at (calls-strip p)))
   where
-    is : TextIs (length out) (length (madeOf held (ended pieces) kept)) (taken (ended pieces) (length kept) held) used n k
-    is = says-is held (ended pieces) kept number out (saidCut used n k) out′ says
+    is : TextIs (length out) (length (madeOf held (noneToCome pieces) kept)) (taken (noneToCome pieces) (length kept) held) used n k
+    is = says-is held (noneToCome pieces) kept number out (saidCut used n k) out′ says
 calls-strip {kept} {number} (reads says read p) = ap (strippedFrom kept number) (same-bytes read) ∙ calls-strip p
 calls-strip {kept} {number} {held} (done {used = used} {n} {out} {out′} says) =
     after-all kept number held none (sound (taken true (length kept) held .faulty) none (is .good))
@@ -127,13 +127,13 @@ calls-strip {kept} {number} {held} (done {used = used} {n} {out} {out′} says) 
     sound b e h = subst (λ (rows : List (List (List ℕ))). (eqb (length rows) 0 && b) ≡ false) e h
 calls-strip {kept} {number} {held} {pieces} (refuses {place = place} {out} {out′} says) =
     subst (λ (j : ℕ). strippedFrom kept number (held ++ allOf pieces) ≡ record { text = []; verdict = badRecord j }) (sym (is .at))
-    (after-refusing kept number held (allOf pieces) (ended pieces) (lastly pieces) (bad .0) (bad .1))
+    (after-refusing kept number held (allOf pieces) (noneToCome pieces) (lastly pieces) (bad .0) (bad .1))
   where
-    is : RefusedIs number (taken (ended pieces) (length kept) held) place
-    is = says-is held (ended pieces) kept number out (refusedBy Fault.CsvSyntax place) out′ says refl
+    is : RefusedIs number (taken (noneToCome pieces) (length kept) held) place
+    is = says-is held (noneToCome pieces) kept number out (refusedBy Fault.CsvSyntax place) out′ says refl
 
-    bad : (taken (ended pieces) (length kept) held .rows ≡ []) × (taken (ended pieces) (length kept) held .faulty ≡ true)
-    bad = first-bad (taken (ended pieces) (length kept) held .rows) (taken (ended pieces) (length kept) held .faulty) (is .bad)
+    bad : (taken (noneToCome pieces) (length kept) held .rows ≡ []) × (taken (noneToCome pieces) (length kept) held .faulty ≡ true)
+    bad = first-bad (taken (noneToCome pieces) (length kept) held .rows) (taken (noneToCome pieces) (length kept) held .faulty) (is .bad)
 
 -- "Accepted exports that differ only in columns held back give the same bytes", however each was cut into reads.
 pub calls-hold-back : {kept keptToo : List Bool} {number numberToo : ℕ} {held heldToo : List ℕ} {pieces piecesToo : List (List ℕ)} {text textToo : List ℕ}

@@ -17,9 +17,9 @@ allOf [] = []
 allOf (p ∷ ps) = p ++ allOf ps
 
 -- The export has ended: no piece is to come.
-abbrev pub ended : List (List ℕ) → Bool
-ended [] = true
-ended (p ∷ ps) = false
+abbrev pub noneToCome : List (List ℕ) → Bool
+noneToCome [] = true
+noneToCome (p ∷ ps) = false
 
 -- A read, by what is held and what is to come before it and after it: the next piece comes behind what is held; or as much of it as there is room for, where 32,768
 -- bytes are held at most, and the rest of it is to come.
@@ -33,7 +33,7 @@ pub data NextRead (held : List ℕ) : List (List ℕ) → List ℕ → List (Lis
 -- the run.
 pub data Calls (kept : List Bool) : ℕ → List ℕ → List (List ℕ) → List ℕ → Verdict → Type 0 where
   writes : {number : ℕ} {held : List ℕ} {pieces : List (List ℕ)} {text : List ℕ} {v : Verdict} {used n k : ℕ} {out out′ : List ℕ} →
-      StripSays held (ended pieces) kept number out (saidCut used n k) out′ → 0 < k → Calls kept (number + k) (drop used held) pieces text v →
+      StripSays held (noneToCome pieces) kept number out (saidCut used n k) out′ → 0 < k → Calls kept (number + k) (drop used held) pieces text v →
       Calls kept number held pieces (take n out′ ++ text) v
   reads : {number : ℕ} {held held′ : List ℕ} {pieces pieces′ : List (List ℕ)} {text : List ℕ} {v : Verdict} {used n : ℕ} {out out′ : List ℕ} →
       StripSays held false kept number out (saidCut used n 0) out′ → NextRead held pieces held′ pieces′ → Calls kept number held′ pieces′ text v →
@@ -41,4 +41,4 @@ pub data Calls (kept : List Bool) : ℕ → List ℕ → List (List ℕ) → Lis
   done : {number : ℕ} {held : List ℕ} {used n : ℕ} {out out′ : List ℕ} → StripSays held true kept number out (saidCut used n 0) out′ →
       Calls kept number held [] [] accepted
   refuses : {number : ℕ} {held : List ℕ} {pieces : List (List ℕ)} {place : ℕ} {out out′ : List ℕ} →
-      StripSays held (ended pieces) kept number out (refusedBy Fault.CsvSyntax place) out′ → Calls kept number held pieces [] (badRecord place)
+      StripSays held (noneToCome pieces) kept number out (refusedBy Fault.CsvSyntax place) out′ → Calls kept number held pieces [] (badRecord place)
