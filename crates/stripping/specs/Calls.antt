@@ -11,7 +11,7 @@ use Rattle.refusals.specs.declared.Fault.{Fault}
 use Rattle.exports.specs.Text.{Verdict, accepted, badRecord}
 use Rattle.stripping.specs.Stripping.{saidCut, StripSays}
 
--- An export comes in pieces, of any length, some perhaps without bytes. All of them, one behind the other.
+-- An export comes in pieces of any length, as reads give it. The read that finds its end gives a piece without bytes. All pieces, one behind the other.
 unfoldable pub allOf : List (List ℕ) → List ℕ
 allOf [] = []
 allOf (p ∷ ps) = p ++ allOf ps
