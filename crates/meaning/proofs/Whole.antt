@@ -11,9 +11,9 @@ use native.Mathlib.Omega.{arith}
 use Rattle.meaning.specs.Values.{Values, StrictlyBelow, numbers}
 use Rattle.meaning.specs.Rules.{Left, LeftInside, Rule, cap, floor, follow, mapRule, Book, RuleInside, Inside, joinUpTo, joinOver, Met}
 use Rattle.meaning.specs.Labelling.{Labelling, FirstDifference, Wanted, Minimal}
-use Rattle.meaning.specs.Greatest.{MetDown, Placed, Pushed}
-use Rattle.meaning.specs.Lowered.{LabellingBelow, WantedBelow}
-use Rattle.meaning.specs.Parts.{Parts, inPart, partValues, Refused, RefusedBelow, AgreeIn}
+use Rattle.meaning.specs.InnerGreatest.{MetDown, Placed, Pushed}
+use Rattle.meaning.specs.InnerLowered.{LabellingBelow, WantedBelow, RefusedBelow}
+use Rattle.meaning.specs.Parts.{Parts, inPart, partValues, Refused, AgreeIn}
 use Rattle.meaning.proofs.Search.{below-suc}
 use Rattle.meaning.proofs.Same.{met-same, wanted-same}
 use Rattle.meaning.proofs.Placed.{placed-map}

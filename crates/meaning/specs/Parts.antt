@@ -6,7 +6,6 @@ use Prim.Native.Nat.{ℕ, _<_}
 use Rattle.meaning.specs.Values.{Values, numbers}
 use Rattle.meaning.specs.Rules.{Book, mapRule, mapBook}
 use Rattle.meaning.specs.Labelling.{Labelling}
-use Rattle.meaning.specs.Lowered.{LabellingBelow}
 
 -- How many parts there are, the greatest value of each, and what a value has in a part.
 pub record Parts : Type 1 where
@@ -29,12 +28,6 @@ module _ (P : Parts) where
     pub isPart : p < P .count
     pub unmet : (f : ℕ → ℕ) → Labelling (partValues p) (inPart p b) f → ⊥
     pub lower : (q : ℕ) → q < p → (f : ℕ → ℕ) × Labelling (partValues q) (inPart q b) f
-
-  -- The same below a bound u: the lowest part in which no labelling below it meets all rules.
-  pub record RefusedBelow (b : Book (P .values .Val)) (u : ℕ → P .values .Val) (p : ℕ) : Type 0 where
-    pub isPart : p < P .count
-    pub unmet : (f : ℕ → ℕ) → LabellingBelow (partValues p) (inPart p b) (λ i. P .part p (u i)) f → ⊥
-    pub lower : (q : ℕ) → q < p → (f : ℕ → ℕ) × LabellingBelow (partValues q) (inPart q b) (λ i. P .part q (u i)) f
 
   -- The same items and the same lines, which differ only in the classes written there and agree in those on part p.
   pub record AgreeIn (p : ℕ) (b c : Book (P .values .Val)) : Type 0 where
