@@ -2,11 +2,10 @@
 -- both, each item has that mark in both or in neither, or the same level. What is printed is labels or a refusal. It rests on the theorem about books, and on what is
 -- read being right.
 -- Assumes nothing.
-use mathlib.Core.Path.{_≡_, refl, sym, subst}
+use mathlib.Core.Path.{refl, sym, subst}
 use mathlib.Core.List.{List, [], _∷_}
 use Prim.Native.Nat.{ℕ, _<_}
 use lib.ListN.{length, take}
-use Rattle.laws.specs.Over.{over}
 use Rattle.laws.proofs.Buffers.{front-over}
 use Rattle.classes.specs.Parts.{partCount}
 use Rattle.meaning.specs.Classes.{ClassesAgree}

@@ -11,10 +11,9 @@ use Rattle.rules.specs.declared.Head.{Head}
 use Rattle.reader.specs.declared.ReadBook.{ReadBook}
 use Rattle.reader.specs.Reading.{saidRead, readText}
 use Rattle.reader.proofs.Unique.{same-head}
-use Rattle.solver.specs.Solving.{Buffers}
 use Rattle.solver.proofs.Unique as solving
 use Rattle.assign.specs.declared.Assigned.{Assigned}
-use Rattle.assign.specs.Assigning.{saidHead, saidAssigned, Lent, lent, itemsOver, BookSays, short-items, unsolved, solved, AssignSays, unread, read}
+use Rattle.assign.specs.Assigning.{saidAssigned, Lent, lent, itemsOver, BookSays, short-items, unsolved, solved, AssignSays, unread, read}
 
 -- An answer is known by what it says.
 abbrev pub headOf : List ℕ → Head
