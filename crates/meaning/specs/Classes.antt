@@ -15,7 +15,7 @@ classes = record { Val = Class; Is = IsClass; Below = λ x y. Covers y x; lowest
 abbrev pub classParts : Parts
 classParts = record { values = classes; count = partCount; top = topOf; part = part }
 
--- Two classes agree in part p: they have the same level, or "that mark in both .. or in neither".
+-- Two classes agree in part p: for part 0 they have the same level, for part k + 1 mark k is "in both .. or in neither".
 abbrev pub ClassesAgree : ℕ → Class → Class → Type 0
 ClassesAgree zero x y = x .level ≡ y .level
 ClassesAgree (suc k) x y = HasMark x k ↔ HasMark y k

@@ -2,7 +2,7 @@
 -- the classes written there does not depend on how they are read. It rests on reading and writing undoing each other.
 -- Assumes nothing.
 use mathlib.Core.Path.{_≡_, refl, sym, subst, _∙_}
-use mathlib.Core.List.{List, [], _∷_, _++_, append-assoc, append-nil}
+use mathlib.Core.List.{List, [], _∷_, _++_, append-assoc}
 use Prim.Native.Nat.{ℕ, zero, suc, _+_, _*_, _≤_, _<_}
 use native.Mathlib.Omega.{arith}
 use lib.ListN.{length, take}
@@ -17,14 +17,15 @@ use Rattle.rules.specs.Table.{ruleAt}
 use Rattle.rules.specs.Agreeing.{SameLine, DifferInClasses, TablesAgree}
 use Rattle.accepts.specs.Tables.{Tables, SameTables}
 use Rattle.accepts.proofs.Counted.{tables-counted, rule-same}
-use Rattle.scans.specs.Ascii.{lf}
+use Rattle.scans.specs.Ascii.{lf, digit1}
 use Rattle.keys.specs.Keys.{keyText}
-use Rattle.tokens.specs.Tokens.{classText}
+use Rattle.keys.specs.declared.Key.{Key}
+use Rattle.tokens.specs.Tokens.{countText, classText}
 use Rattle.reader.specs.declared.ReadBook.{ReadBook}
 use Rattle.reader.specs.Reading.{readText, readWhole}
 use Rattle.reader.specs.Agreeing.{TextsAgree}
 use Rattle.reader.proofs.Books.{book-of-lines, read-tables}
-use Rattle.writer.specs.Texts.{pieces, formLine, itemLine, itemLines, leftText, ruleKey, ruleLine, ruleLines, endLine, bookText}
+use Rattle.writer.specs.Texts.{pieces, formLine, itemLines, leftText, rightText, ruleKey, ruleLines, endLine, bookText}
 use Rattle.rulebook.specs.RoundTrip.{Words}
 use Rattle.rulebook.specs.Agreeing.{WrittenAlike, SameButClass, same, other-class, SameLines, none, next}
 use Rattle.rulebook.proofs.ReadWrite.{read-write}
@@ -85,26 +86,34 @@ written-texts {h = h} {k} {t} {w} {u} a b small small′ agree short short′ = 
     two : Back k t u (readText (bookText k t u))
     two = write-read b small′
 
--- The lines of two rules that differ only in their class.
-line-alike : (t : List ℕ) (x y : Rule) → SameLine x y → SameButClass (ruleLine t x) (ruleLine t y)
-line-alike t x y s =
-    subst (SameButClass (ruleLine t x)) (rw (s .kind, s .count, s .left, s .right)) (by-kind (x .kind) (keyText (ruleKey x) ++ leftText t x) (nameOf t (x .right)))
+-- The line of a rule, its LF left out; those of two rules that differ only in their class.
+abbrev ruleBody : List ℕ → Rule → List ℕ
+ruleBody t x = keyText (ruleKey x) ++ leftText t x ++ rightText t x
+
+rule-alike : (t : List ℕ) (x y : Rule) → SameLine x y → SameButClass (ruleBody t x) (ruleBody t y)
+rule-alike t x y s =
+    subst (SameButClass (ruleBody t x)) (rw (s .kind, s .count, s .left, s .right)) (by-kind (x .kind) (keyText (ruleKey x) ++ leftText t x) (nameOf t (x .right)))
   where
     by-kind : (k : ℕ) (front name : List ℕ)
-        → SameButClass (front ++ byKind k (classText (x .class)) (classText (x .class)) name ++ lf ∷ [])
-        (front ++ byKind k (classText (y .class)) (classText (y .class)) name ++ lf ∷ [])
-    by-kind zero front name = other-class front (lf ∷ []) (x .class) (y .class)
-    by-kind (suc zero) front name = other-class front (lf ∷ []) (x .class) (y .class)
+        → SameButClass (front ++ byKind k (classText (x .class)) (classText (x .class)) name) (front ++ byKind k (classText (y .class)) (classText (y .class)) name)
+    by-kind zero front name = other-class front (x .class) (y .class)
+    by-kind (suc zero) front name = other-class front (x .class) (y .class)
     by-kind (suc (suc k)) front name = same
 
 -- Lines one after the other.
+abbrev line : List ℕ → List ℕ
+line x = x ++ lf ∷ []
+
+line-alike : (x y : List ℕ) → SameButClass x y → {l m : List ℕ} → SameLines l m → SameLines (line x ++ l) (line y ++ m)
+line-alike x y e {l} {m} s = rw (append-assoc x (lf ∷ []) l, append-assoc y (lf ∷ []) m) (next x y e s)
+
 pieces-alike : (f g : ℕ → List ℕ) (k c : ℕ) → ((j : ℕ) → j < k + c → SameButClass (f j) (g j)) → {l m : List ℕ} → SameLines l m
-    → SameLines (pieces f k c ++ l) (pieces g k c ++ m)
+    → SameLines (pieces (λ j. line (f j)) k c ++ l) (pieces (λ j. line (g j)) k c ++ m)
 unfolding pieces
 pieces-alike f g k zero h s = s
 pieces-alike f g k (suc c) h {l} {m} s =
-    rw (append-assoc (f k) (pieces f (suc k) c) l, append-assoc (g k) (pieces g (suc k) c) m)
-    (next (f k) (g k) (h k (omega arith)) (pieces-alike f g (suc k) c (λ j i. h j (omega arith)) s))
+    rw (append-assoc (line (f k)) (pieces (λ j. line (f j)) (suc k) c) l, append-assoc (line (g k)) (pieces (λ j. line (g j)) (suc k) c) m)
+    (line-alike (f k) (g k) (h k (omega arith)) (pieces-alike f g (suc k) c (λ j i. h j (omega arith)) s))
 
 regrouped : (a b c c′ d : List ℕ) → SameLines (a ++ (b ++ (c ++ d))) (a ++ (b ++ (c′ ++ d))) → SameLines (a ++ b ++ c ++ d) (a ++ b ++ c′ ++ d)
 regrouped a b c c′ d s = rw (append-assoc (a ++ b) c d, append-assoc (a ++ b) c′ d, append-assoc a b (c ++ d), append-assoc a b (c′ ++ d)) s
@@ -114,14 +123,17 @@ lines-alike : {h k : Head} (t : List ℕ) {w u : List ℕ} → DifferInClasses h
 unfolding bookText
 lines-alike {h} {k} t {w} {u} s =
     rw (← s .items, ← s .rules)
-    (regrouped formLine (itemLines t (h .items)) (ruleLines t w (h .rules)) (ruleLines t u (h .rules)) end
-    (next formLine formLine same
-    (pieces-alike (itemLine t) (itemLine t) 0 (h .items) (λ i l. same)
-    (pieces-alike (λ r. ruleLine t (ruleAt w r)) (λ r. ruleLine t (ruleAt u r)) 0 (h .rules) (λ r l. line-alike t (ruleAt w r) (ruleAt u r) (s .lines r (omega arith)))
-    (subst (λ (x : List ℕ). SameLines x x) (append-nil end) (next end end same none))))))
+    (regrouped formLine (itemLines t (h .items)) (ruleLines t w (h .rules)) (ruleLines t u (h .rules)) (endLine count)
+    (next (keyText Key.Form ++ digit1 ∷ []) (keyText Key.Form ++ digit1 ∷ []) same
+    (pieces-alike item item 0 (h .items) (λ i l. same)
+    (pieces-alike (λ r. ruleBody t (ruleAt w r)) (λ r. ruleBody t (ruleAt u r)) 0 (h .rules) (λ r l. rule-alike t (ruleAt w r) (ruleAt u r) (s .lines r (omega arith)))
+    (next (keyText Key.End ++ countText count) (keyText Key.End ++ countText count) same none)))))
   where
-    end : List ℕ
-    end = endLine (1 + h .items + h .rules)
+    count : ℕ
+    count = 1 + h .items + h .rules
+
+    item : ℕ → List ℕ
+    item i = keyText Key.Item ++ nameOf t i
 
 -- So are texts that agree.
 written-lines : {p : ℕ} {l m : List ℕ} → WrittenAlike p l m → SameLines l m

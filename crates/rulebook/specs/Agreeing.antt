@@ -1,12 +1,13 @@
 -- "the same items and the same lines, which differ only in the classes written there", said of the bytes of two texts.
 -- Assumes nothing.
 use mathlib.Core.Path.{_≡_}
-use mathlib.Core.List.{List, [], _++_}
+use mathlib.Core.List.{List, [], _∷_, _++_}
 use Prim.Native.Nat.{ℕ}
 use Rattle.classes.specs.declared.Class.{Class}
 use Rattle.rules.specs.declared.Head.{Head}
 use Rattle.rules.specs.Agreeing.{TablesAgree}
 use Rattle.accepts.specs.Tables.{Tables}
+use Rattle.scans.specs.Ascii.{lf}
 use Rattle.tokens.specs.Tokens.{classText}
 use Rattle.writer.specs.Texts.{bookText}
 
@@ -23,12 +24,12 @@ pub record WrittenAlike (p : ℕ) (l m : List ℕ) : Type 0 where
   pub text : l ≡ bookText head items rules
   pub text′ : m ≡ bookText head′ items rules′
 
--- Two lines that are the same, or differ only in the class that is written there.
+-- Two lines, their LF left out, that are the same or differ only in the class at their end.
 pub data SameButClass : List ℕ → List ℕ → Type 0 where
   same : {x : List ℕ} → SameButClass x x
-  other-class : (x y : List ℕ) (c d : Class) → SameButClass (x ++ classText c ++ y) (x ++ classText d ++ y)
+  other-class : (x : List ℕ) (c d : Class) → SameButClass (x ++ classText c) (x ++ classText d)
 
 -- As many lines, in the same order, and each is so.
 pub data SameLines : List ℕ → List ℕ → Type 0 where
   none : SameLines [] []
-  next : (x y : List ℕ) → SameButClass x y → {l m : List ℕ} → SameLines l m → SameLines (x ++ l) (y ++ m)
+  next : (x y : List ℕ) → SameButClass x y → {l m : List ℕ} → SameLines l m → SameLines (x ++ lf ∷ l) (y ++ lf ∷ m)
