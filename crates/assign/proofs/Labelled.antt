@@ -5,7 +5,7 @@ use mathlib.Core.Path.{_≡_, refl, sym}
 use mathlib.Core.List.{List}
 use Prim.Native.Nat.{ℕ, _*_, _≤_, _<_}
 use native.Mathlib.Omega.{arith}
-use lib.ListN.{length, getD, take}
+use lib.ListN.{length, take}
 use lib.Seq.{length-take-le}
 use Rattle.laws.specs.First.{AllBelow}
 use Rattle.laws.proofs.Buffers.{front-over}
@@ -24,6 +24,7 @@ use Rattle.reader.specs.declared.ReadBook.{ReadBook}
 use Rattle.reader.proofs.Books.{read-tables}
 use Rattle.solver.specs.Solving.{Buffers, labelsOf, WritesLabels, writes-labels}
 use Rattle.assign.specs.Assigning.{saidHead, Lent, lent, itemsOver, short-items, unsolved, solved, AssignSays, unread, read}
+use Rattle.assign.proofs.Unique.{headOf}
 
 -- The book that was read has its names and its wanted labels in the buffers.
 pub record LabelledAs (l : List ℕ) (h : Head) (b : Lent) : Type 0 where
@@ -62,7 +63,7 @@ module _ (l : List ℕ) {h : Head} (whole : readWhole l ≡ ReadBook.Book h) (be
 
 -- What is told by what is said.
 abbrev IfLabelled : List ℕ → Lent → Said → Type 0
-IfLabelled l b (success c values) = LabelledAs l (record { items = getD values 0 0; rules = getD values 1 0 }) b
+IfLabelled l b (success c values) = LabelledAs l (headOf values) b
 IfLabelled l b (refused n p) = Unit {0}
 
 if-labelled : {l : List ℕ} {before : Lent} {s : Said} {after : Lent} → AssignSays l before s after → IfLabelled l after s
