@@ -11,7 +11,7 @@ use Rattle.laws.specs.Tells.{Tells}
 use Rattle.classes.specs.Class.{classOf, lowest}
 use Rattle.rules.specs.Table.{wordAt, ruleAt}
 use Rattle.accepts.specs.Accepted.{RuleAccepted, TableAccepted}
-use Rattle.wrong.specs.Example.{head}
+use Rattle.wrong.specs.InnerExample.{head}
 
 -- Of any table.
 pub rules-ok-with-1025-rules : (t : List ℕ) → Tells (TableAccepted (head 0 1025) t) true → ⊥

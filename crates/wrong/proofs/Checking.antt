@@ -18,7 +18,7 @@ use Rattle.checker.specs.declared.Checked.{Checked}
 use Rattle.checker.specs.Answer.{saidChecked}
 use Rattle.checker.specs.Checking.{Roomless, BadAt, UnmetAt, AllMet, CheckSays, bad-table, no-room, bad-label, first-unmet, all-met}
 use Rattle.checker.specs.List.{listAt, ListAccepted}
-use Rattle.wrong.specs.Example.{head}
+use Rattle.wrong.specs.InnerExample.{head}
 
 -- What an answer of each kind tells.
 module _ {A : Type 0} {h : Head} {at : ℕ → Rule} {levels marks : List ℕ} where

@@ -26,7 +26,7 @@ use Rattle.accepts.proofs.Inside.{table-inside}
 use Rattle.solver.specs.declared.Solved.{Solved}
 use Rattle.solver.specs.Solving.{saidSolved, Buffers, held, WritesLabels, RefusesBook, SolveSays, bad-table, no-room, no-labelling, writes-labels}
 use Rattle.solver.proofs.Unique.{says-unique}
-use Rattle.wrong.specs.Example.{head, twoItems, wrongCount}
+use Rattle.wrong.specs.InnerExample.{head, twoItems, wrongCount}
 
 -- What an answer of each kind tells.
 module _ {h : Head} {t : List ℕ} {before : Buffers} where

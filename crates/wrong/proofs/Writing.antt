@@ -16,7 +16,7 @@ use Rattle.writer.specs.declared.Written.{Written}
 use Rattle.writer.specs.Texts.{pieces, bookText, labelsText}
 use Rattle.writer.specs.Writing.{saidWritten, WriteSays, no-room, written, LabelsSays, bad-items, few-labels, bad-label, short-buffer, labelled}
 use Rattle.writer.proofs.Unique.{write-says-unique, labels-say-unique}
-use Rattle.wrong.specs.Example.{head}
+use Rattle.wrong.specs.InnerExample.{head}
 
 -- The book without items and rules, whose text, "form=1" and "end=1", has 13 bytes.
 empty : Tables (head 0 0) [] []
