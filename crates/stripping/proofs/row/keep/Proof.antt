@@ -7,9 +7,6 @@ use Rattle.stripping.proofs.row.keep.Tie as tie
 returns : tie.Need-returns
 returns c = search (keeps-none, needs)
 
-part-requires : tie.Need-part-requires
-part-requires c κs = search needs
-
 put-requires : tie.Need-put-requires
 put-requires c κs = search needs
 
@@ -27,5 +24,4 @@ returns-2 c = search (keeps-put, needs)
 
 pub keep-spec : {M : Type 1} → statement M
 keep-spec =
-    tie.close
-    (tie.spec returns part-requires put-requires slice-write-out add-result same-length returns-2)
+    tie.close (tie.spec returns put-requires slice-write-out add-result same-length returns-2)

@@ -2,33 +2,27 @@
 use Prim.Native.Nat.{_-_}
 use lib.ListN.{length}
 use borrow.Author.Needs.{needs}
-use Rattle.stripping.proofs.Putting.{PutAt, put-starts, end-there, keep-ready, behind-fits, put-on, line-ready, put-ends}
+use Rattle.stripping.proofs.Putting.{PutAt, put-starts, keep-ready, put-on, line-ready, put-ends}
 use Rattle.stripping.proofs.row.put_row.Statement.{statement}
 use Rattle.stripping.proofs.row.put_row.Tie as tie
 
 abbrev Inv-loop : tie.InvT-loop
-Inv-loop text at ends kept out₀ to i₀ n₀ c₀ out i n c = PutAt text at ends kept out₀ to out i n c
+Inv-loop text at ends kept out₀ to n₀ c₀ out n c = PutAt text at ends kept out₀ to out n c
 
 abbrev μ-loop : tie.MeasureT-loop
-μ-loop text at ends kept out₀ to i₀ n₀ c₀ out i n c = length kept - c
+μ-loop text at ends kept out₀ to n₀ c₀ out n c = length kept - c
 
 loop-holds : tie.Need-loop-holds Inv-loop μ-loop
 loop-holds c = search (put-starts, needs)
 
-mul-end : tie.Need-mul-end Inv-loop μ-loop
-mul-end c = search needs
-
-shared-slice-read-end : tie.Need-shared-slice-read-end Inv-loop μ-loop
-shared-slice-read-end c = search (end-there, needs)
+nth-field-requires : tie.Need-nth-field-requires Inv-loop μ-loop
+nth-field-requires c κs = search needs
 
 shared-slice-read-keep : tie.Need-shared-slice-read-keep Inv-loop μ-loop
 shared-slice-read-keep c = search needs
 
 keep-requires : tie.Need-keep-requires Inv-loop μ-loop
 keep-requires c κs = search (keep-ready, needs)
-
-add-i : tie.Need-add-i Inv-loop μ-loop
-add-i c = search (behind-fits, needs)
 
 add-c : tie.Need-add-c Inv-loop μ-loop
 add-c c = search needs
@@ -37,7 +31,9 @@ loop-less : tie.Need-loop-less Inv-loop μ-loop
 loop-less c = search needs
 
 loop-again : tie.Need-loop-again Inv-loop μ-loop
-loop-again c = search (put-on, needs)
+loop-again c =
+    put-on (c .before .before .before .before .before .before .before .loop .inv) (search needs)
+    (c .before .before .before .before .before .nth-field .ensures) (c .before .before .keep .ensures)
 
 end-line-requires : tie.Need-end-line-requires Inv-loop μ-loop
 end-line-requires c κs = search (line-ready, needs)
@@ -55,11 +51,9 @@ put-row-spec =
     Inv-loop
     μ-loop
     loop-holds
-    mul-end
-    shared-slice-read-end
+    nth-field-requires
     shared-slice-read-keep
     keep-requires
-    add-i
     add-c
     loop-less
     loop-again
