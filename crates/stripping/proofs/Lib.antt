@@ -1,5 +1,5 @@
--- Why `stripping` is right: a record found by the ends of its fields, lines put into a buffer, record by record, and that any two results of
--- its promise are equal.
+-- Why `stripping` is right: a record found by the ends of its fields, lines put into a buffer, record by record, that a text that waits for more is
+-- short, and that any two results of its promise are equal.
 pub mod Rows
 pub mod Making
 pub mod Putting
@@ -7,3 +7,4 @@ pub mod Taking
 pub mod Says
 pub mod Calls
 pub mod Unique
+pub mod Waiting

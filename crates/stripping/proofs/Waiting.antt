@@ -1,0 +1,73 @@
+-- A text of which `strip` takes no record, although more may follow it, is short: no record that waits for its end has over 4,097 bytes. It rests on the promise of
+-- `strip` and on the same of one record.
+-- Assumes nothing.
+use mathlib.Core.Path.{_≡_, refl, sym, ap, _∙_}
+use mathlib.Core.Bool.{Bool, true, false, cond, _&&_}
+use mathlib.Core.List.{List}
+use Prim.Native.Nat.{ℕ, _+_, _≤_, _<_}
+use native.Mathlib.Decide.{decLe}
+use native.Mathlib.Omega.{arith}
+use lib.Dec.{ltb, eqb}
+use lib.ListN.{length}
+use borrow.Author.Tests.{eq-eqb}
+use Rattle.records.specs.Rows.{Record, whole, more, bad, mostBytes, mostFields, lineEnd, recordAt}
+use Rattle.records.proofs.Whole.{more-short}
+use Rattle.refusals.specs.Said.{refusedBy}
+use Rattle.refusals.specs.Sizes.{mostText}
+use Rattle.refusals.specs.declared.Fault.{Fault}
+use Rattle.exports.specs.Rows.{Taken, fitting, recordOf, taken}
+use Rattle.exports.proofs.Taking.{taken-whole, taken-bad}
+use Rattle.stripping.specs.Stripping.{saidCut, madeOf, stripAnswer, StripSays}
+
+-- A record that is not at its end is so whatever the number of columns.
+fitting-more : (columns : ℕ) (r : Record) → fitting columns r ≡ more → r ≡ more
+fitting-more columns (whole fs k) e = by (eqb (length fs) columns) e
+  where
+    by : (t : Bool) → cond t (whole fs k) bad ≡ more → whole fs k ≡ more
+    by true f = f
+    by false f = let z : _≡_ {A = ℕ} 0 1 = cc in absurd (omega arith)
+fitting-more columns more e = refl
+fitting-more columns bad e = let z : _≡_ {A = ℕ} 0 1 = cc in absurd (omega arith)
+
+-- A text of which no record is taken, and which has no bad one at its front.
+none-short : (columns : ℕ) (l : List ℕ) → length (taken false columns l .rows) ≡ 0 → taken false columns l .faulty ≡ false → length l < mostBytes + lineEnd
+none-short columns l e f = by (decLe 1 (length l)) (recordOf false columns l) refl
+  where
+    by : Dec (1 ≤ length l) → (r : Record) → recordOf false columns l ≡ r → length l < mostBytes + lineEnd
+    by (no h) r q = omega arith
+    by (yes h) (whole fs k) q = absurd (omega (arith, e, ap (λ (t : Taken). length (t .rows)) (taken-whole false columns l h q)))
+    by (yes h) more q = more-short false columns l (fitting-more columns (recordAt false columns l) q)
+    by (yes h) bad q =
+        let b : true ≡ false = sym (ap (λ (t : Taken). t .faulty) (taken-bad false columns l h q)) ∙ f in
+        let z : _≡_ {A = ℕ} 0 1 = cc in absurd (omega arith)
+
+-- What an answer with no record says of what was taken.
+record NoneTaken (t : Taken) : Type 0 where
+  rows : length (t .rows) ≡ 0
+  good : t .faulty ≡ false
+
+none-taken : (number n : ℕ) (t : Taken) {used len : ℕ} (a b c d : Bool) → (eqb (length (t .rows)) 0 && t .faulty) ≡ c
+    → cond a (refusedBy Fault.TooLong 0)
+    (cond b (refusedBy Fault.BadTable 0)
+    (cond c (refusedBy Fault.CsvSyntax number) (cond d (refusedBy Fault.NoRoom 0) (saidCut (t .used) n (length (t .rows))))))
+    ≡ saidCut used len 0
+    → NoneTaken t
+none-taken number n t true b c d e f = let z : _≡_ {A = ℕ} 0 1 = cc in absurd (omega arith)
+none-taken number n t false true c d e f = let z : _≡_ {A = ℕ} 0 1 = cc in absurd (omega arith)
+none-taken number n t false false true d e f = let z : _≡_ {A = ℕ} 0 1 = cc in absurd (omega arith)
+none-taken number n t false false false true e f = let z : _≡_ {A = ℕ} 0 1 = cc in absurd (omega arith)
+none-taken number n t false false false false e f =
+    let none : length (t .rows) ≡ 0 = cc in
+    record { rows = none; good = sym (ap (λ (b : Bool). b && t .faulty) (eq-eqb (length (t .rows)) 0 none)) ∙ e }
+
+-- No record is taken of a text that is not the last: it is short.
+pub none-waits : {l : List ℕ} {kept : List Bool} {number used len : ℕ} {out out′ : List ℕ} → StripSays l false kept number out (saidCut used len 0) out′
+    → length l < mostBytes + lineEnd
+unfolding stripAnswer
+none-waits {l} {kept} {number} {used} {len} {out} p = none-short (length kept) l (none .rows) (none .good)
+  where
+    none : NoneTaken (taken false (length kept) l)
+    none =
+        none-taken number (length (madeOf l false kept)) (taken false (length kept) l) (ltb mostText (length l)) (ltb mostFields (length kept))
+        (eqb (length (taken false (length kept) l .rows)) 0 && taken false (length kept) l .faulty)
+        (ltb (length out) (length (madeOf l false kept))) refl (sym (p .answer))
