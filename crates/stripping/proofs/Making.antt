@@ -48,15 +48,18 @@ pub keeps-none : (f : List ℕ) (kept : Bool) (d : List ℕ) (to : ℕ) → not 
 keeps-none f true d to h ready = let z : _≡_ {A = ℕ} 0 1 = cc in absurd (omega arith)
 keeps-none f false d to h ready = record { made = made-none d to (omega (arith, ready .room)); next = sym (add-zero to) }
 
-module _ (f d : List ℕ) (to : ℕ) {d₁ : List ℕ} {r : ℕ} (ready : KeepReady f d to) (p : Put d to f d₁ r) where
+module _ (f d : List ℕ) (to : ℕ) {x d₁ : List ℕ} {r : ℕ} (ready : KeepReady f d to) (e : x ≡ f) (p : Put d to x d₁ r) where
+  same : Put d to f d₁ r
+  same = subst (λ (y : List ℕ). Put d to y d₁ r) e p
+
   fits : to + length f ≤ length d
   fits = omega (arith, ready .room)
 
   next : r ≡ to + length f
-  next = put-next p fits
+  next = put-next same fits
 
   size : length d₁ ≡ length d
-  size = made-size (put-made p fits)
+  size = made-size (put-made same fits)
 
   -- There is room for the comma.
   pub comma-in : r < length d₁
@@ -68,7 +71,7 @@ module _ (f d : List ℕ) (to : ℕ) {d₁ : List ℕ} {r : ℕ} (ready : KeepRe
   pub keeps-put : (kept : Bool) → not kept ≡ false → Keeps f kept d to (r + 1) (set d₁ r comma)
   keeps-put false h = let z : _≡_ {A = ℕ} 0 1 = cc in absurd (omega arith)
   keeps-put true h = record {
-    made = made-made (put-made p fits) (subst (λ (k : ℕ). Made d₁ k (comma ∷ []) (set d₁ r comma)) next (set-made d₁ r comma comma-in));
+    made = made-made (put-made same fits) (subst (λ (k : ℕ). Made d₁ k (comma ∷ []) (set d₁ r comma)) next (set-made d₁ r comma comma-in));
     next = omega (arith, next, length-append f (comma ∷ []));
   }
 

@@ -76,12 +76,11 @@ module _ {l : List ℕ} {at : ℕ} {ends : List ℕ} {kept : List Bool} {d₀ : 
         (omega (arith, span-order span, span-within span, length-drop (startAt at ends c) l))
 
     -- There is room for it.
-    pub keep-ready : {f : List ℕ} → f ≡ nthField l at ends c → KeepReady f d n
-    keep-ready {f} e = record {
+    pub keep-ready : KeepReady (nthField l at ends c) d n
+    keep-ready = record {
       room =
           omega (
             arith,
-            ap length e,
             long,
             span-order span,
             span-within span,
@@ -95,30 +94,28 @@ module _ {l : List ℕ} {at : ℕ} {ends : List ℕ} {kept : List Bool} {d₀ : 
     }
 
     -- The next field was kept or not.
-    pub put-on : {f : List ℕ} → f ≡ nthField l at ends c → {r : ℕ} {d₁ : List ℕ} → Keeps f (getD kept c false) d n r d₁
-        → PutAt l at ends kept d₀ to d₁ r (c + 1)
-    put-on {f} e {r} {d₁} q = record {
+    pub put-on : {r : ℕ} {d₁ : List ℕ} → Keeps (nthField l at ends c) (getD kept c false) d n r d₁ → PutAt l at ends kept d₀ to d₁ r (c + 1)
+    put-on {r} {d₁} q = record {
       ready = p .ready;
       far = omega (arith, p .far, span-order span, start-more at ends c);
       near = omega (arith, span-within span, start-more at ends c);
       made =
           subst (λ (x : List ℕ). Made d₀ to x d₁) (sym same)
-          (made-made (p .made) (subst (λ (k : ℕ). Made d k (keptField (getD kept c false) f) d₁) (p .next) (q .made)));
+          (made-made (p .made) (subst (λ (k : ℕ). Made d k (keptField (getD kept c false) (nthField l at ends c)) d₁) (p .next) (q .made)));
       next = omega (arith, q .next, p .next, longer);
-      most = omega (arith, p .most, longer, kept-most (getD kept c false) f, ap length e, long, span-order span, p .far, start-more at ends c);
+      most = omega (arith, p .most, longer, kept-most (getD kept c false) (nthField l at ends c), long, span-order span, p .far, start-more at ends c);
       count = omega arith;
       size = made-size (q .made) ∙ p .size;
     }
       where
-        same : closedTo l at ends kept (c + 1) ≡ closedTo l at ends kept c ++ keptField (getD kept c false) f
+        same : closedTo l at ends kept (c + 1) ≡ closedTo l at ends kept c ++ keptField (getD kept c false) (nthField l at ends c)
         same =
-            ap (λ (x : List (List ℕ)). closedEach (keptOf kept x))
-            (fields-more l at ends c ∙ ap (λ (x : List ℕ). fieldsTo l at ends c ++ x ∷ []) (sym e))
-            ∙ closed-kept-more kept (fieldsTo l at ends c) f (omega (arith, h, fields-count l at ends c))
-            ∙ ap (λ (k : ℕ). closedTo l at ends kept c ++ keptField (getD kept k false) f) (fields-count l at ends c)
+            ap (λ (x : List (List ℕ)). closedEach (keptOf kept x)) (fields-more l at ends c)
+            ∙ closed-kept-more kept (fieldsTo l at ends c) (nthField l at ends c) (omega (arith, h, fields-count l at ends c))
+            ∙ ap (λ (k : ℕ). closedTo l at ends kept c ++ keptField (getD kept k false) (nthField l at ends c)) (fields-count l at ends c)
 
-        longer : length (closedTo l at ends kept (c + 1)) ≡ length (closedTo l at ends kept c) + length (keptField (getD kept c false) f)
-        longer = ap length same ∙ length-append (closedTo l at ends kept c) (keptField (getD kept c false) f)
+        longer : length (closedTo l at ends kept (c + 1)) ≡ length (closedTo l at ends kept c) + length (keptField (getD kept c false) (nthField l at ends c))
+        longer = ap length same ∙ length-append (closedTo l at ends kept c) (keptField (getD kept c false) (nthField l at ends c))
 
   -- All fields are put.
   module _ (h : length kept ≤ c) where

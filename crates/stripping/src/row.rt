@@ -5,6 +5,7 @@ use scans::COMMA;
 use scans::CR;
 use scans::LF;
 ghost use lib.ListN.{length};
+ghost use Rattle.records.specs.Rows.{nthField};
 ghost use Rattle.stripping.specs.Inner.{PutReady, RowPut, KeepReady, Keeps, EndReady, EndsLine};
 
 // Puts the line of the record at a place, whose fields end at these places.
@@ -22,21 +23,29 @@ pub(crate) fn put_row(
     let mut n = to;
     let mut c = 0;
     while c < kept.len() {
-        n = keep(nth_field(text, at, ends, c), kept[c], out, n);
+        n = keep(text, at, ends, c, kept[c], out, n);
         c += 1;
     }
     end_line(out, to, n)
 }
 
-// Puts a field that is kept, and a comma behind it.
-fn keep(field: &[u8], kept: bool, out: &mut [u8], to: usize) -> usize
-    requires { ⌜ KeepReady (now field) (now out) to ⌝ }
-    ensures { λ r. ⌜ Keeps (now (field .entry)) kept (now (out .entry)) to r (now (out .exit)) ⌝ }
+// Puts field c of the record, if it is kept, and a comma behind it.
+fn keep(
+    text: &[u8],
+    at: usize,
+    ends: &[usize],
+    c: usize,
+    kept: bool,
+    out: &mut [u8],
+    to: usize,
+) -> usize
+    requires { ⌜ KeepReady (nthField (now text) at (now ends) c) (now out) to ⌝ }
+    ensures { λ r. ⌜ Keeps (nthField (now (text .entry)) at (now (ends .entry)) c) kept (now (out .entry)) to r (now (out .exit)) ⌝ }
 {
     if !kept {
         return to;
     }
-    let comma = put(field, out, to);
+    let comma = put(nth_field(text, at, ends, c), out, to);
     out[comma] = COMMA;
     comma + 1
 }

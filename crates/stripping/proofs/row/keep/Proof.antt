@@ -7,6 +7,9 @@ use Rattle.stripping.proofs.row.keep.Tie as tie
 returns : tie.Need-returns
 returns c = search (keeps-none, needs)
 
+nth-field-requires : tie.Need-nth-field-requires
+nth-field-requires c κs = search needs
+
 put-requires : tie.Need-put-requires
 put-requires c κs = search needs
 
@@ -24,4 +27,12 @@ returns-2 c = search (keeps-put, needs)
 
 pub keep-spec : {M : Type 1} → statement M
 keep-spec =
-    tie.close (tie.spec returns put-requires slice-write-out add-result same-length returns-2)
+    tie.close
+    (tie.spec
+    returns
+    nth-field-requires
+    put-requires
+    slice-write-out
+    add-result
+    same-length
+    returns-2)

@@ -15,9 +15,6 @@ abbrev μ-loop : tie.MeasureT-loop
 loop-holds : tie.Need-loop-holds Inv-loop μ-loop
 loop-holds c = search (put-starts, needs)
 
-nth-field-requires : tie.Need-nth-field-requires Inv-loop μ-loop
-nth-field-requires c κs = search needs
-
 shared-slice-read-keep : tie.Need-shared-slice-read-keep Inv-loop μ-loop
 shared-slice-read-keep c = search needs
 
@@ -31,9 +28,7 @@ loop-less : tie.Need-loop-less Inv-loop μ-loop
 loop-less c = search needs
 
 loop-again : tie.Need-loop-again Inv-loop μ-loop
-loop-again c =
-    put-on (c .before .before .before .before .before .before .before .loop .inv) (search needs)
-    (c .before .before .before .before .before .nth-field .ensures) (c .before .before .keep .ensures)
+loop-again c = search (put-on, needs)
 
 end-line-requires : tie.Need-end-line-requires Inv-loop μ-loop
 end-line-requires c κs = search (line-ready, needs)
@@ -51,7 +46,6 @@ put-row-spec =
     Inv-loop
     μ-loop
     loop-holds
-    nth-field-requires
     shared-slice-read-keep
     keep-requires
     add-c
