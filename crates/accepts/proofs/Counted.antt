@@ -1,12 +1,12 @@
 -- Tables that are equal up to their counts: both are accepted or neither is, and they have the same names and are the same book. They rest on the laws of the
 -- item table's count and of fronts of buffers.
 -- Assumes nothing.
-use mathlib.Core.Path.{_≡_, refl, sym, ap, _∙_}
+use mathlib.Core.Path.{_≡_, refl, sym, ap}
 use mathlib.Core.List.{List}
 use Prim.Native.Nat.{ℕ, suc, _+_, _*_, _<_}
 use native.Mathlib.Omega.{arith}
 use Rattle.laws.proofs.Buffers.{SameFront, take-same, take-room}
-use Rattle.meaning.proofs.SameBooks.{SameBooks}
+use Rattle.meaning.specs.Rules.{SameBooks}
 use Rattle.items.specs.Names.{nameRoom}
 use Rattle.items.specs.Table.{nameOf}
 use Rattle.items.specs.Lookup.{findIn}

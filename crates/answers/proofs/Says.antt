@@ -35,6 +35,7 @@ use Rattle.writer.proofs.Lengths.{labels-short}
 use Rattle.writer.proofs.Unique.{written-told}
 use Rattle.assign.specs.declared.Assigned.{Assigned}
 use Rattle.assign.specs.Assigning.{saidAssigned, lent, AssignSays}
+use Rattle.assign.proofs.Labelled.{levels-in-range}
 use Rattle.answers.specs.Answering.{countLine, refusalText, AnswerSays, RoutineSays, no-room, written}
 use Rattle.answers.specs.Inner.{Whole, PrintReady, FrontWith}
 use Rattle.answers.proofs.Short.{refusal-short}
@@ -93,7 +94,7 @@ module _ {l items levels marks : List ℕ} {a : Assigned} {items′ levels′ ma
   labels-ready e size =
       let x = told-by says (record { items = bytes; levels = many; marks = much }) e in
       record {
-        labels = record { items = x .items; room = x .room; range = record { each = λ i s. record { most = x .wanted .labelling .labels i s .level } } };
+        labels = record { items = x .items; room = x .room; range = levels-in-range x };
         buffer = size;
       }
 

@@ -5,49 +5,36 @@ use mathlib.Core.Path.{_≡_, refl, sym, ap, ap₂, _∙_, subst}
 use mathlib.Core.List.{List, _++_, _∷_, []}
 use Prim.Native.Nat.{ℕ, _+_, _*_, _≤_, _<_}
 use native.Mathlib.Omega.{arith}
-use lib.ListN.{length, take}
-use lib.Seq.{length-take-le}
-use Rattle.laws.proofs.Buffers.{front-over}
+use lib.ListN.{length}
 use Rattle.classes.specs.declared.Class.{Class}
-use Rattle.meaning.specs.Classes.{classes}
-use Rattle.meaning.specs.Labelling.{Wanted}
 use Rattle.refusals.specs.Sizes.{mostItems}
 use Rattle.refusals.specs.Said.{Said, success, refused}
 use Rattle.items.specs.Names.{nameRoom}
-use Rattle.items.specs.Table.{nameOf, ItemsOk}
+use Rattle.items.specs.Table.{nameOf}
 use Rattle.labels.specs.Labels.{labelsIn, Room}
 use Rattle.rules.specs.declared.Head.{Head}
-use Rattle.rules.specs.Table.{bookOf}
-use Rattle.accepts.specs.Tables.{Tables, SameTables}
-use Rattle.accepts.proofs.Counted.{tables-counted, name-same}
+use Rattle.accepts.specs.Tables.{Tables}
 use Rattle.scans.specs.Ascii.{lf, colon}
 use Rattle.keys.specs.Keys.{labelKey}
 use Rattle.tokens.specs.Tokens.{classText}
 use Rattle.reader.specs.Reading.{readText, readWhole}
 use Rattle.reader.specs.declared.ReadBook.{ReadBook}
 use Rattle.reader.proofs.Books.{read-tables}
-use Rattle.solver.specs.Solving.{Buffers, held, labelsOf, WritesLabels, SolveSays, bad-table, no-room, no-labelling, writes-labels}
+use Rattle.solver.specs.Solving.{Buffers, held, SolveSays, bad-table, no-room, no-labelling, writes-labels}
 use Rattle.writer.specs.Texts.{formLine, endLine, labelLine, labelsText}
 use Rattle.writer.proofs.Pieces.{pieces-same}
 use Rattle.assign.specs.declared.Assigned.{Assigned}
 use Rattle.assign.specs.Assigning.{saidHead, saidAssigned, Lent, lent, itemsOver, BookSays, short-items, unsolved, solved, AssignSays}
 use Rattle.assign.specs.Assigning as assigning
+use Rattle.assign.proofs.Labelled.{LabelledAs, labelled-as}
 use Rattle.assign.proofs.Unique.{assigned-told}
-use Rattle.answers.specs.Answering.{refusalText, noLabelling, BookPrints, unlabelled, labelled, AnswerSays, unread, book}
+use Rattle.answers.specs.Answering.{refusalText, noLabelling, unlabelled, labelled, AnswerSays, unread, book}
 
 -- The lent buffers have room for every book.
 pub record WholeLent (b : Lent) : Type 0 where
   pub items : length (b .items) ≡ mostItems * nameRoom
   pub levels : length (b .labels .levels) ≡ mostItems
   pub marks : length (b .labels .marks) ≡ mostItems
-
--- The book that was read has its names and its wanted labels in the buffers.
-pub record LabelledAs (l : List ℕ) (h : Head) (b : Lent) : Type 0 where
-  pub whole : readWhole l ≡ ReadBook.Book h
-  pub items : ItemsOk (b .items) (h .items)
-  pub names : (i : ℕ) → i < h .items → nameOf (b .items) i ≡ nameOf (readText l .names) i
-  pub room : Room (h .items) (b .labels .levels) (b .labels .marks)
-  pub wanted : Wanted classes (bookOf h (readText l .words)) (labelsOf (b .labels))
 
 -- What is told by an answer: labels, or the text of a refusal that is printed.
 abbrev pub Told : List ℕ → Lent → Assigned → Type 0
@@ -66,39 +53,20 @@ module _ (l : List ℕ) {h : Head} (whole : readWhole l ≡ ReadBook.Book h) {be
   roomy : Room (h .items) (before .labels .levels) (before .labels .marks)
   roomy = record { forLevels = omega (arith, room .levels, right .items .size); forMarks = omega (arith, room .marks, right .items .size) }
 
-  -- The lent items hold the names that were read.
-  same : SameTables h (readText l .names) (readText l .words) (itemsOver h (readText l .names) (before .items)) (readText l .words)
-  same = record {
-    items =
-        sym (front-over (before .items) (take (h .items * nameRoom) (readText l .names)) (h .items * nameRoom)
-        (length-take-le (h .items * nameRoom) (readText l .names) (right .items .room)) (omega (arith, room .items, right .items .size)));
-    rules = refl;
-  }
-
-  labelled-as : {k : ℕ} {labels : Buffers} → WritesLabels h (readText l .words) k (before .labels) labels
-      → LabelledAs l h (lent (itemsOver h (readText l .names) (before .items)) labels)
-  labelled-as x = record {
-    whole = whole;
-    items = tables-counted same right .items;
-    names = name-same same right;
-    room = record { forLevels = omega (arith, x .levels .sized, roomy .forLevels); forMarks = omega (arith, x .marks .sized, roomy .forMarks) };
-    wanted = x .wanted;
-  }
-
   unsolved-fact : {n p : ℕ} {labels : Buffers} → SolveSays h (readText l .words) (before .labels) (refused n p) labels
       → Fact l (lent (before .items) labels) (refused n p)
   unsolved-fact (bad-table x) = absurd (x .bad (right .rules))
   unsolved-fact (no-room x) = absurd (x .short roomy)
   unsolved-fact (no-labelling {p} x) = record { answer = Assigned.Refused (noLabelling p); is = refl; told = book whole (unlabelled (x .unlabelled)) }
 
-  solved-fact : {k : ℕ} {labels : Buffers} → SolveSays h (readText l .words) (before .labels) (success 0 (k ∷ [])) labels
+  solved-fact : h .items * nameRoom ≤ length (before .items) → {k : ℕ} {labels : Buffers} → SolveSays h (readText l .words) (before .labels) (success 0 (k ∷ [])) labels
       → Fact l (lent (itemsOver h (readText l .names) (before .items)) labels) (saidHead h)
-  solved-fact (writes-labels x) = record { answer = Assigned.Labelled h; is = refl; told = labelled-as x }
+  solved-fact fits (writes-labels x) = record { answer = Assigned.Labelled h; is = refl; told = labelled-as l whole before fits x }
 
   book-fact : {s : Said} {after : Lent} → BookSays h (readText l .names) (readText l .words) before s after → Fact l after s
   book-fact (short-items short) = absurd (omega (arith, room .items, right .items .size))
   book-fact (unsolved fits x) = unsolved-fact x
-  book-fact (solved fits x) = solved-fact x
+  book-fact (solved fits x) = solved-fact fits x
 
 fact : {l : List ℕ} {before : Lent} {s : Said} {after : Lent} → AssignSays l before s after → WholeLent before → Fact l after s
 fact (assigning.unread {r} e) room = record { answer = Assigned.Refused r; is = refl; told = unread e }

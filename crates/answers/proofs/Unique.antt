@@ -15,6 +15,7 @@ use Rattle.accepts.specs.Accepted.{TableAccepted}
 use Rattle.accepts.proofs.Inside.{table-inside}
 use Rattle.reader.specs.Reading.{readText}
 use Rattle.reader.specs.declared.ReadBook.{ReadBook}
+use Rattle.reader.proofs.Unique.{same-head}
 use Rattle.reader.proofs.Books.{read-tables}
 use Rattle.writer.specs.Writing.{saidWritten}
 use Rattle.writer.specs.declared.Written.{Written}
@@ -29,9 +30,6 @@ book-unique {h} {t} {w} a (unlabelled p) (labelled levels marks g) = absurd (ref
 book-unique {h} {t} {w} a (labelled levels marks f) (unlabelled q) = absurd (refused-unlabelled (bookOf h w) (table-inside a) q (f .labelling))
 book-unique {h} {t} {w} a (labelled levels marks f) (labelled levels′ marks′ g) =
     labels-text-same t t (h .items) levels marks levels′ marks′ (λ i s. refl) (wanted-unique (bookOf h w) (table-inside a) f g)
-
-same-head : {x : ReadBook} {h k : Head} → x ≡ ReadBook.Book h → x ≡ ReadBook.Book k → k ≡ h
-same-head e f = let same = sym f ∙ e in cc
 
 same-refusal : {x : ReadBook} {r s : Refusal} → x ≡ ReadBook.Refused r → x ≡ ReadBook.Refused s → r ≡ s
 same-refusal e f = let same = sym e ∙ f in cc

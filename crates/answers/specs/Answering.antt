@@ -47,6 +47,17 @@ pub data AnswerSays (l : List ℕ) : List ℕ → Type 0 where
   unread : {r : Refusal} → readWhole l ≡ ReadBook.Refused r → AnswerSays l (refusalText r)
   book : {h : Head} {x : List ℕ} → readWhole l ≡ ReadBook.Book h → BookPrints h (readText l .names) (readText l .words) x → AnswerSays l x
 
+-- The text x that is printed for l is the labelling of the book that l is read as, under the head h: its items with the wanted labels.
+pub record PrintsLabels (l x : List ℕ) (h : Head) (levels marks : List ℕ) : Type 0 where
+  pub whole : readWhole l ≡ ReadBook.Book h
+  pub wanted : Wanted classes (bookOf h (readText l .words)) (labelsIn levels marks)
+  pub text : x ≡ labelsText (readText l .names) (h .items) levels marks
+
+-- What is printed is a refusal, or such a labelling.
+pub data Printed (l x : List ℕ) : Type 0 where
+  refusal : (r : Refusal) → x ≡ refusalText r → Printed l x
+  labelling : (h : Head) (levels marks : List ℕ) → PrintsLabels l x h levels marks → Printed l x
+
 -- The promise of `answer`: what is printed for the text l is at the front of a buffer that held `out`, and its length is answered; 11 at 0 and the buffer as
 -- it was where it has no room.
 pub data RoutineSays (l out : List ℕ) : Said → List ℕ → Type 0 where

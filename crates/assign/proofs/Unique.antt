@@ -10,13 +10,13 @@ use Rattle.refusals.proofs.Said.{said-injective, refusalOf, refusal-back}
 use Rattle.rules.specs.declared.Head.{Head}
 use Rattle.reader.specs.declared.ReadBook.{ReadBook}
 use Rattle.reader.specs.Reading.{saidRead, readText}
-use Rattle.solver.specs.Solving.{Buffers}
+use Rattle.reader.proofs.Unique.{same-head}
 use Rattle.solver.proofs.Unique as solving
 use Rattle.assign.specs.declared.Assigned.{Assigned}
-use Rattle.assign.specs.Assigning.{saidHead, saidAssigned, Lent, lent, itemsOver, BookSays, short-items, unsolved, solved, AssignSays, unread, read}
+use Rattle.assign.specs.Assigning.{saidAssigned, Lent, lent, itemsOver, BookSays, short-items, unsolved, solved, AssignSays, unread, read}
 
 -- An answer is known by what it says.
-abbrev headOf : List ℕ → Head
+abbrev pub headOf : List ℕ → Head
 headOf [] = record { items = 0; rules = 0 }
 headOf (n ∷ []) = record { items = n; rules = 0 }
 headOf (n ∷ m ∷ l) = record { items = n; rules = m }
@@ -46,10 +46,6 @@ module _ {h : Head} {t w : List ℕ} {before : Lent} where
   book-unique (solved room x) (solved room′ y) = (refl, ap (lent (itemsOver h t (before .items))) (solving.says-unique x y .1))
 
 -- A text is read in one way.
-
-same-book : {x : ReadBook} {h k : Head} → x ≡ ReadBook.Book h → x ≡ ReadBook.Book k → k ≡ h
-same-book e f = let same = sym f ∙ e in cc
-
 same-refusal : {x : ReadBook} {r s : Refusal} → x ≡ ReadBook.Refused r → x ≡ ReadBook.Refused s → saidRefusal r ≡ saidRefusal s
 same-refusal e f = ap saidRead (sym e ∙ f)
 
@@ -58,7 +54,7 @@ says-unique (unread e) (unread f) = (same-refusal e f, refl)
 says-unique (unread e) (read f y) = let z : _≡_ {A = ℕ} 0 1 = cc in absurd (omega arith)
 says-unique (read e x) (unread f) = let z : _≡_ {A = ℕ} 0 1 = cc in absurd (omega arith)
 says-unique {l} {before} (read e x) (read {s = s} {after = after} f y) =
-    book-unique x (subst (λ (g : Head). BookSays g (readText l .names) (readText l .words) before s after) (same-book e f) y)
+    book-unique x (subst (λ (g : Head). BookSays g (readText l .names) (readText l .words) before s after) (same-head e f) y)
 
 pub assign-unique : {l : List ℕ} {before : Lent} {x y : Assigned} {a b : Lent} → AssignSays l before (saidAssigned x) a → AssignSays l before (saidAssigned y) b
     → (x ≡ y) × (a ≡ b)

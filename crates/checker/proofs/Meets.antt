@@ -17,6 +17,7 @@ use Rattle.rules.specs.declared.Rule.{Rule}
 use Rattle.rules.specs.Record.{leftOf, leftItem, meaningOf}
 use Rattle.rules.proofs.Meaning.{meaning-cap, meaning-floor, meaning-follow}
 use Rattle.checker.specs.Checking.{RuleMet}
+use Rattle.checker.specs.InnerJudging.{TellsUnmet}
 
 module _ (x : Rule) (f : ℕ → Class) where
   pub cap-met : {label : Class} {b : Bool} → x .kind ≡ 0 → label ≡ f (leftItem x 0) → Tells (Covers (x .class) label) b → Tells (Met classes (meaningOf x) f) b
@@ -44,3 +45,7 @@ module _ {at : ℕ → Rule} {levels marks : List ℕ} {r : ℕ} {x : Rule} {b :
 
   pub unmet-here : {m : ℕ} → r < m → AllBelow (RuleMet at levels marks) r → not b ≡ true → Sought (RuleMet at levels marks) m r
   unmet-here s p e = sought-here s p (rule-unmet e)
+
+-- The answer of a search for the first rule that is not met tells which one it is.
+pub sought-tells : {at : ℕ → Rule} {levels marks : List ℕ} {m u : ℕ} → Sought (RuleMet at levels marks) m u → TellsUnmet at levels marks m u
+sought-tells x = record { found = x .found; none = x .nowhere }

@@ -30,8 +30,8 @@ use Rattle.checker.specs.Answer.{saidChecked}
 use Rattle.checker.specs.Checking.{bad-table}
 use Rattle.checker.specs.List.{listAt, ListAccepted}
 use Rattle.checker.specs.InnerJudging.{refusalAt, Judges}
-use Rattle.checker.specs.InnerWalking.{Sizes, Count, upTo, InOrder, kindBefore, SeenSoFar, Starts, Stands, SoughtOn, GoesOn, Concludes}
-use Rattle.checker.proofs.Meets.{all-met-more, unmet-here}
+use Rattle.checker.specs.InnerWalking.{Sizes, Count, upTo, InOrder, kindBefore, SeenSoFar, Starts, Stands, UnmetOn, GoesOn, Concludes}
+use Rattle.checker.proofs.Meets.{all-met-more, unmet-here, sought-tells}
 use Rattle.checker.proofs.Says.{judges-accepted}
 
 -- The sizes, and how many rules are looked at.
@@ -86,7 +86,7 @@ starts-so = record {
   start = λ h at levels marks. record {
     good = tells-yes all-none;
     kind = refl;
-    unmet = record { found = λ s. absurd (omega arith); nowhere = λ s. all-none };
+    unmet = record { found = λ s. absurd (omega arith); none = λ s. all-none };
   };
 }
 
@@ -106,23 +106,23 @@ module _ (before : Seen) (rule : Rule) (n : ℕ) where
 
 -- The first rule that is not met: an earlier one, this one, or none.
 module _ {before : ℕ} {rule : Rule} {i : ℕ} {levels marks : List ℕ} where
-  pub sought-earlier : before < i → SoughtOn before rule i levels marks before
-  sought-earlier s = record {
+  pub unmet-earlier : before < i → UnmetOn before rule i levels marks before
+  unmet-earlier s = record {
     on = λ at here few x. record {
       found = λ t. record { below = t; before = x .found s .before; fails = x .found s .fails };
-      nowhere = λ t. absurd (omega arith);
+      none = λ t. absurd (omega arith);
     };
   }
 
   module _ (s : i ≤ before) {b : Bool} (told : Tells (Met classes (meaningOf rule) (labelsIn levels marks)) b) where
-    pub sought-now : not b ≡ true → SoughtOn before rule i levels marks i
-    sought-now e = record { on = λ at here few x. unmet-here here told (omega arith) (x .nowhere s) e }
+    pub unmet-now : not b ≡ true → UnmetOn before rule i levels marks i
+    unmet-now e = record { on = λ at here few x. sought-tells (unmet-here here told (omega arith) (x .none s) e) }
 
-    pub sought-none : not b ≡ false → SoughtOn before rule i levels marks mostRules
-    sought-none e = record {
+    pub unmet-none : not b ≡ false → UnmetOn before rule i levels marks mostRules
+    unmet-none e = record {
       on = λ at here few x. record {
         found = λ t. absurd (omega arith);
-        nowhere = λ t. rw (← add-one) (all-met-more here told (x .nowhere s) e);
+        none = λ t. rw (← add-one) (all-met-more here told (x .none s) e);
       };
     }
 
@@ -139,7 +139,7 @@ module _ {before : Seen} {rule : Rule} {i : ℕ} {h : Head} {levels marks : List
       accepted = subst (RuleAccepted (h .items)) (sym here) (order-last h p);
     }
 
-  pub goes-on : {g : Bool} {u : ℕ} → Tells (Stands before rule (h .items)) g → SoughtOn (before .unmet) rule i levels marks u
+  pub goes-on : {g : Bool} {u : ℕ} → Tells (Stands before rule (h .items)) g → UnmetOn (before .unmet) rule i levels marks u
       → GoesOn before rule i h levels marks (record { good = g; kind = rule .kind; unmet = u })
   goes-on t s = record {
     on = λ at here few x. record {

@@ -6,15 +6,16 @@ use mathlib.Core.List.{List}
 use Prim.Native.Nat.{ℕ, zero, suc, _≤_, _<_}
 use lib.ListN.{length}
 use Rattle.laws.specs.Tells.{Tells}
-use Rattle.laws.specs.First.{AllBelow, Sought}
+use Rattle.laws.specs.First.{AllBelow}
 use Rattle.refusals.specs.Said.{Said}
 use Rattle.refusals.specs.Sizes.{mostItems, mostRules}
 use Rattle.rules.specs.declared.Head.{Head}
 use Rattle.rules.specs.declared.Rule.{Rule}
 use Rattle.accepts.specs.Accepted.{RuleAccepted, Standing}
 use Rattle.checker.specs.declared.list.Seen.{Seen}
-use Rattle.checker.specs.Checking.{RuleMet, CheckSays}
+use Rattle.checker.specs.Checking.{CheckSays}
 use Rattle.checker.specs.List.{listAt, ListAccepted}
+use Rattle.checker.specs.InnerJudging.{TellsUnmet}
 
 -- The head is not too large, and a list of this length is not too short for it.
 pub record Sizes (len : ℕ) (h : Head) : Type 0 where
@@ -45,7 +46,7 @@ kindBefore at (suc i) = at i .kind
 pub record SeenSoFar (h : Head) (at : ℕ → Rule) (levels marks : List ℕ) (i : ℕ) (s : Seen) : Type 0 where
   pub good : Tells (InOrder h at i) (s .good)
   pub kind : s .kind ≡ kindBefore at i
-  pub unmet : Sought (RuleMet at levels marks) i (s .unmet)
+  pub unmet : TellsUnmet at levels marks i (s .unmet)
 
 -- It is known of no rule.
 pub record Starts (s : Seen) : Type 0 where
@@ -57,9 +58,9 @@ pub record Stands (before : Seen) (rule : Rule) (n : ℕ) : Type 0 where
   pub order : before .kind ≤ rule .kind
   pub accepted : RuleAccepted n rule
 
--- From the first rule that is not met before rule i to the first one up to it.
-pub record SoughtOn (before : ℕ) (rule : Rule) (i : ℕ) (levels marks : List ℕ) (after : ℕ) : Type 0 where
-  pub on : (at : ℕ → Rule) → rule ≡ at i → i < mostRules → Sought (RuleMet at levels marks) i before → Sought (RuleMet at levels marks) (suc i) after
+-- From which of the rules before rule i is the first that is not met to which of those up to it.
+pub record UnmetOn (before : ℕ) (rule : Rule) (i : ℕ) (levels marks : List ℕ) (after : ℕ) : Type 0 where
+  pub on : (at : ℕ → Rule) → rule ≡ at i → i < mostRules → TellsUnmet at levels marks i before → TellsUnmet at levels marks (suc i) after
 
 -- From what is known before rule i to what is known after it.
 pub record GoesOn (before : Seen) (rule : Rule) (i : ℕ) (h : Head) (levels marks : List ℕ) (after : Seen) : Type 0 where

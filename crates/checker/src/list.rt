@@ -14,7 +14,7 @@ ghost use Rattle.laws.specs.Tells.{Tells};
 ghost use Rattle.checker.specs.Answer.{saidChecked};
 ghost use Rattle.checker.specs.Checking.{CheckSays};
 ghost use Rattle.checker.specs.List.{listAt, ListAccepted};
-ghost use Rattle.checker.specs.InnerWalking.{Sizes, Count, Starts, Stands, SoughtOn, GoesOn, Concludes};
+ghost use Rattle.checker.specs.InnerWalking.{Sizes, Count, Starts, Stands, UnmetOn, GoesOn, Concludes};
 
 // What is known of the rules so far: whether they are accepted in this order, the kind of the last one, and the number of the first one that is
 // not met, or the most rules where each is met.
@@ -103,7 +103,7 @@ fn stands(seen: Seen, rule: Rule, n: u64) -> bool
 
 // The number of the first rule up to rule i that is not met, given that of the first before it.
 fn unmet_after(unmet: usize, rule: Rule, i: usize, levels: &[u64], marks: &[u64]) -> usize
-    ensures { λ r. ⌜ SoughtOn unmet rule i (now (levels .entry)) (now (marks .entry)) r ⌝ }
+    ensures { λ r. ⌜ UnmetOn unmet rule i (now (levels .entry)) (now (marks .entry)) r ⌝ }
 {
     if unmet < i {
         return unmet;

@@ -1,9 +1,9 @@
--- Reading in pieces, cut anywhere and written at any time, gives what reading the whole export at once gives. They rest on the laws of one
--- record, which is the same whatever follows it.
+-- A text and what comes behind it: what can be taken from the text now and what is taken then are what is taken from both at once, wherever the cut is. They
+-- rest on the laws of one record, which is the same whatever follows it.
 -- Assumes nothing.
 use mathlib.Core.Path.{_≡_, refl, sym, ap, _∙_, subst}
 use mathlib.Core.Bool.{Bool, true, false, false≢true, cond}
-use mathlib.Core.List.{List, [], _∷_, _++_, append-assoc, append-nil}
+use mathlib.Core.List.{List, [], _∷_, _++_, append-nil}
 use Prim.Native.Nat.{ℕ, zero, suc, _+_, _≤_, _<_}
 use native.Mathlib.Nat.{add-assoc, add-zero}
 use native.Mathlib.Omega.{arith}
@@ -12,7 +12,6 @@ use lib.Seq.{drop-drop, drop-append-le}
 use Rattle.records.specs.Rows.{Record, whole, more, bad}
 use Rattle.exports.specs.Rows.{recordOf, Taken, stopped, onTop, taken}
 use Rattle.exports.specs.Text.{recordLines, Verdict, accepted, badRecord, Outcome, strippedFrom}
-use Rattle.exports.specs.Reading.{allOf, LastOnly, Run}
 use Rattle.exports.proofs.Fitting.{record-within, record-some, record-prefix, record-bad-prefix}
 use Rattle.exports.proofs.Taking.{taken-nothing, taken-whole, taken-more, taken-bad}
 use Rattle.exports.proofs.Gone.{past, past-none, past-under}
@@ -118,14 +117,9 @@ outcome-none kept number t faulty e q = λ i. record {
     count : number + length (t .rows) ≡ number
     count = ap (λ rows. number + length rows) e ∙ add-zero number
 
--- Nothing is to come behind the last text.
-lastly : {last : Bool} {pieces : List (List ℕ)} → LastOnly last pieces → Lastly last (allOf pieces)
-unfolding allOf
-lastly o e = ap allOf (o .none e)
-
--- What a run may do: it writes the rows that can be taken now, or it refuses, or it is done.
+-- What is left of the whole where the rows that can be taken now are written, where a bad record stands first, and where nothing is taken from the last text.
 module _ (kept : List Bool) (number : ℕ) where
-  after-writing : (held b : List ℕ) (last : Bool) → Lastly last b → {text : List ℕ} {v : Verdict} →
+  pub after-writing : (held b : List ℕ) (last : Bool) → Lastly last b → {text : List ℕ} {v : Verdict} →
       strippedFrom kept (number + length (taken last (length kept) held .rows)) (drop (taken last (length kept) held .used) held ++ b)
       ≡ record { text = text; verdict = v } →
       strippedFrom kept number (held ++ b) ≡ record { text = recordLines kept (taken last (length kept) held .rows) ++ text; verdict = v }
@@ -138,7 +132,7 @@ module _ (kept : List Bool) (number : ℕ) where
       ∙ ap (λ o. record { text = recordLines kept (t .rows) ++ o .text; verdict = o .verdict })
       (sym (stripped-outcome kept (number + length (t .rows)) rest) ∙ e)
 
-  after-refusing : (held b : List ℕ) (last : Bool) → Lastly last b → taken last (length kept) held .rows ≡ []
+  pub after-refusing : (held b : List ℕ) (last : Bool) → Lastly last b → taken last (length kept) held .rows ≡ []
       → taken last (length kept) held .faulty ≡ true
       → strippedFrom kept number (held ++ b) ≡ record { text = []; verdict = badRecord number }
   after-refusing held b last z e q =
@@ -146,21 +140,9 @@ module _ (kept : List Bool) (number : ℕ) where
       ∙ ap (outcome kept number) (ahead (length kept) last held b z .faulty q)
       ∙ outcome-none kept number (taken last (length kept) held) true e q
 
-  after-all : (held : List ℕ) → taken true (length kept) held .rows ≡ [] → taken true (length kept) held .faulty ≡ false
+  pub after-all : (held : List ℕ) → taken true (length kept) held .rows ≡ [] → taken true (length kept) held .faulty ≡ false
       → strippedFrom kept number (held ++ []) ≡ record { text = []; verdict = accepted }
   after-all held e q =
       ap (strippedFrom kept number) (append-nil held)
       ∙ stripped-outcome kept number held
       ∙ outcome-none kept number (taken true (length kept) held) false e q
-
--- However an export is read in pieces and written, the text and the verdict are those of the whole export.
-pub cuts-do-not-matter : {kept : List Bool} {number : ℕ} {held : List ℕ} {pieces : List (List ℕ)} {text : List ℕ} {v : Verdict}
-    → Run kept number held pieces text v → strippedFrom kept number (held ++ allOf pieces) ≡ record { text = text; verdict = v }
-unfolding allOf
-cuts-do-not-matter {kept = kept} (Run.reads {number = number} {held = held} {piece = piece} {pieces = pieces} run) =
-    ap (strippedFrom kept number) (sym (append-assoc held piece (allOf pieces))) ∙ cuts-do-not-matter run
-cuts-do-not-matter {kept = kept} (Run.writes {number = number} {held = held} {pieces = pieces} last o run) =
-    after-writing kept number held (allOf pieces) last (lastly o) (cuts-do-not-matter run)
-cuts-do-not-matter {kept = kept} (Run.refuses {number = number} {held = held} {pieces = pieces} last o e q) =
-    after-refusing kept number held (allOf pieces) last (lastly o) e q
-cuts-do-not-matter {kept = kept} (Run.done {number = number} {held = held} e q) = after-all kept number held e q

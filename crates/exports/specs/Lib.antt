@@ -1,5 +1,4 @@
--- What an export is, what is left of it for a reader, and how its reading may be cut.
+-- What an export is, and what is left of it for a reader.
 pub mod Names
 pub mod Rows
 pub mod Text
-pub mod Reading

@@ -1,7 +1,7 @@
 -- What is left of an export for a reader: the text, and where the run is refused.
 -- Assumes nothing.
 use mathlib.Core.Path.{_≡_}
-use mathlib.Core.Bool.{Bool, true, false, cond}
+use mathlib.Core.Bool.{Bool, true, cond}
 use mathlib.Core.List.{List, [], _∷_, _++_}
 use Prim.Native.Nat.{ℕ, _+_, _<_}
 use lib.ListN.{length, getD}
@@ -55,8 +55,8 @@ strippedFrom kept number l = record {
   verdict = cond (taken true (length kept) l .faulty) (badRecord (number + length (taken true (length kept) l .rows))) accepted;
 }
 
--- Two exports "differ only in columns held back": they have the same columns kept and as many records, and in each record the same bytes, quotes
--- among them, in each column that is kept.
-pub record HeldBackApart (kept : List Bool) (a b : List (List (List ℕ))) : Type 0 where
+-- The records of two exports "differ only in columns held back": each export has its own columns that are kept, both have as many records, and the kept fields
+-- of each record are the same bytes, quotes among them. So a column that is held back may stand elsewhere or be missing.
+pub record HeldBackApart (kept keptToo : List Bool) (a b : List (List (List ℕ))) : Type 0 where
   pub count : length a ≡ length b
-  pub same : (r c : ℕ) → r < length a → c < length kept → getD kept c false ≡ true → getD (getD a r []) c [] ≡ getD (getD b r []) c []
+  pub same : (r : ℕ) → r < length a → keptOf kept (getD a r []) ≡ keptOf keptToo (getD b r [])

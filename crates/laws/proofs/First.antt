@@ -1,4 +1,4 @@
--- Searches that go up by one, and that the first number of which a statement fails is the only one.
+-- Searches that go up by one, and that the first number of which a statement fails is the only one, so that a search has one answer.
 -- Assumes nothing.
 use mathlib.Core.Path.{_≡_}
 use mathlib.Core.Bool.{Bool, false, not}
@@ -23,10 +23,10 @@ all-told p told passed = all-more p (told-yes told passed)
 
 -- The search stops at a number of which the statement fails, or past the last one.
 pub sought-here : {P : ℕ → Type 0} {n i : ℕ} → i < n → AllBelow P i → (P i → ⊥) → Sought P n i
-sought-here s p bad = record { found = λ l. record { below = s; before = p; fails = bad }; nowhere = λ l. absurd (omega arith) }
+sought-here s p bad = record { within = omega arith; found = λ l. record { below = s; before = p; fails = bad }; nowhere = λ l. absurd (omega arith) }
 
 pub sought-nowhere : {P : ℕ → Type 0} {n i : ℕ} → n ≤ i → AllBelow P i → Sought P n n
-sought-nowhere s p = record { found = λ l. absurd (omega arith); nowhere = λ l. record { each = λ j t. p .each j (omega arith) } }
+sought-nowhere s p = record { within = omega arith; found = λ l. absurd (omega arith); nowhere = λ l. record { each = λ j t. p .each j (omega arith) } }
 
 -- A statement that fails of one number does not hold of all.
 pub first-not-all : {P : ℕ → Type 0} {n i : ℕ} → FirstFailing P n i → AllBelow P n → ⊥
@@ -40,3 +40,13 @@ first-unique {P} {n} {i} {j} x y = pick (decLt i j) (decLt j i)
     pick (yes l) k = absurd (x .fails (y .before .each i l))
     pick (no l) (yes k) = absurd (y .fails (x .before .each j k))
     pick (no l) (no k) = omega arith
+
+-- Any two answers of a search are equal.
+pub sought-unique : {P : ℕ → Type 0} {n i j : ℕ} → Sought P n i → Sought P n j → i ≡ j
+sought-unique {P} {n} {i} {j} x y = pick (decLt i n) (decLt j n)
+  where
+    pick : Dec (i < n) → Dec (j < n) → i ≡ j
+    pick (yes l) (yes k) = first-unique (x .found l) (y .found k)
+    pick (yes l) (no k) = absurd (first-not-all (x .found l) (y .nowhere (omega arith)))
+    pick (no l) (yes k) = absurd (first-not-all (y .found k) (x .nowhere (omega arith)))
+    pick (no l) (no k) = omega (arith, x .within, y .within)

@@ -1,4 +1,4 @@
--- The laws of what specs/ defines, of bools as answers, and of lists past their end.
+-- The laws of what specs/ defines, of bools as answers, of lists past their end, of what stands in a buffer, and of a text copied into one.
 pub mod Bools
 pub mod Tells
 pub mod Every
@@ -7,3 +7,4 @@ pub mod First
 pub mod Over
 pub mod Lists
 pub mod Buffers
+pub mod Copying

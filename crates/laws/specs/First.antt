@@ -12,7 +12,8 @@ pub record FirstFailing (P : ℕ → Type 0) (n i : ℕ) : Type 0 where
   pub before : AllBelow P i
   pub fails : P i → ⊥
 
--- What a search for it tells by a number: one below n is the first, and any other says that there is none.
+-- What a search for it answers: the first such number, and n where there is none.
 pub record Sought (P : ℕ → Type 0) (n i : ℕ) : Type 0 where
+  pub within : i ≤ n
   pub found : i < n → FirstFailing P n i
   pub nowhere : n ≤ i → AllBelow P n

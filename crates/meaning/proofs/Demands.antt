@@ -1,18 +1,16 @@
 -- The theorems of demands 2 and 3, said of classes.
 -- Assumes nothing.
-use mathlib.Core.Path.{_≡_, sym, _∙_}
-use mathlib.Core.Logic.{_⊎_, _↔_}
-use Prim.Native.Nat.{ℕ, suc, _<_}
-use native.Mathlib.Omega.{arith}
-use Rattle.classes.specs.Class.{HasMark}
+use mathlib.Core.Path.{_≡_, refl}
+use mathlib.Core.Logic.{_⊎_}
+use Prim.Native.Nat.{ℕ, _<_}
 use Rattle.classes.specs.Parts.{partCount, part}
 use Rattle.classes.specs.declared.Class.{Class}
 use Rattle.meaning.specs.Rules.{Book, Inside}
 use Rattle.meaning.specs.Labelling.{Labelling, Wanted, Minimal}
 use Rattle.meaning.specs.Parts.{Refused, AgreeIn, inPart, partValues}
-use Rattle.meaning.specs.Classes.{classes, classParts}
+use Rattle.meaning.specs.Classes.{classes, classParts, ClassesAgree}
 use Rattle.meaning.proofs.Whole as whole
-use Rattle.meaning.proofs.Classes.{classLaws}
+use Rattle.meaning.proofs.Classes.{classLaws, part-agree}
 
 abbrev Labels : Type 0
 Labels = ℕ → Class
@@ -50,15 +48,9 @@ module _ (b : Book Class) (inside : Inside b) where
   pub wanted-or-refused : ((f : Labels) × Wanted classes b f) ⊎ ((p : ℕ) × Refused classParts b p)
   wanted-or-refused = whole.wanted-or-refused classParts classLaws b inside
 
--- Two books with the same items and the same lines, which differ only in the classes written there and agree in those on one mark: if both can be
--- labelled, then each item has that mark in both wanted labellings or in neither. The level, taken in the place of the mark, obeys the same.
-module _ (b c : Book Class) (inb : Inside b) (inc : Inside c) {f g : Labels} (x : Wanted classes b f) (y : Wanted classes c g) where
-  pub one-mark-alone : (k : ℕ) → k < 64 → AgreeIn classParts (suc k) b c → (i : ℕ) → i < b .items → HasMark (f i) k ↔ HasMark (g i) k
-  unfolding part
-  one-mark-alone k s agree i t =
-      let e = whole.one-part-alone classParts classLaws (omega arith) inb inc agree x y i t in
-      ((λ m. sym e ∙ m), (λ m. e ∙ m))
-
-  pub level-alone : AgreeIn classParts 0 b c → (i : ℕ) → i < b .items → f i .level ≡ g i .level
-  unfolding part
-  level-alone agree i t = whole.one-part-alone classParts classLaws (omega arith) inb inc agree x y i t
+-- Two books that agree in one part: if both can be labelled, then each item has that mark in both wanted labellings or in neither. The level, taken in the place of
+-- the mark, obeys the same.
+pub one-part-alone : {b c : Book Class} → Inside b → Inside c → {p : ℕ} → p < partCount → AgreeIn classParts classParts p b c → {f g : Labels} → Wanted classes b f
+    → Wanted classes c g → (i : ℕ) → i < b .items → ClassesAgree p (f i) (g i)
+one-part-alone inb inc {p} isPart agree {f} {g} x y i s =
+    part-agree p (f i) (g i) (whole.one-part-alone classParts classLaws classParts classLaws isPart isPart refl inb inc agree x y i s)

@@ -12,8 +12,8 @@ use lib.Dec.{T, leb, leb→le, le→leb}
 use Rattle.meaning.specs.Values.{Values, StrictlyBelow, numbers}
 use Rattle.meaning.specs.Rules.{Book, Inside}
 use Rattle.meaning.specs.Labelling.{Labelling, FirstDifference, Wanted}
-use Rattle.meaning.specs.Greatest.{HeldUp, PushedDown, Greatest, Placed}
-use Rattle.meaning.specs.Lowered.{AgreeBefore, LabellingBelow, Lowered, NoneLess, WantedBelow}
+use Rattle.meaning.specs.InnerGreatest.{HeldUp, PushedDown, Greatest, Placed}
+use Rattle.meaning.specs.InnerLowered.{AgreeBefore, LabellingBelow, Lowered, NoneLess, WantedBelow}
 use Rattle.meaning.proofs.Search.{below-suc, FirstYes, first-yes}
 use Rattle.meaning.proofs.Lattice.{Lattice}
 use Rattle.meaning.proofs.Ordered.{Ordered}

@@ -7,7 +7,7 @@ use native.Mathlib.Omega.{arith}
 use Rattle.meaning.specs.Values.{Values, StrictlyBelow}
 use Rattle.meaning.specs.Rules.{Book}
 use Rattle.meaning.specs.Labelling.{Labelling, FirstDifference, Wanted, Minimal}
-use Rattle.meaning.specs.Lowered.{AgreeBefore}
+use Rattle.meaning.specs.InnerLowered.{AgreeBefore}
 use Rattle.meaning.proofs.Search.{below-suc}
 
 pub record Ordered (K : Values) : Type 0 where

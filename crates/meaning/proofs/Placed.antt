@@ -3,7 +3,7 @@
 use mathlib.Core.Path.{_≡_, sym, _∙_, ap, subst}
 use Prim.Native.Nat.{ℕ, _<_}
 use native.Mathlib.Decide.{ℕ-discrete}
-use Rattle.meaning.specs.Greatest.{Placed}
+use Rattle.meaning.specs.InnerGreatest.{Placed}
 
 -- What holds of the item's new value, and of every other item's old one, holds of all.
 pub placed-cases : {A : Type 0} {n i : ℕ} {v : A} {f g : ℕ → A} (Q : ℕ → A → Type 0) → Placed n f i v g → Q i v → ((j : ℕ) → j < n → Q j (f j)) → (j : ℕ) → j < n → Q j (g j)

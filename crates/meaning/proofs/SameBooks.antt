@@ -1,19 +1,13 @@
 -- Books with the same rules have the same labellings, the same wanted labels and the same refused part.
 -- Assumes nothing.
-use mathlib.Core.Path.{_≡_, sym, ap, subst}
+use mathlib.Core.Path.{sym, ap, subst}
 use Prim.Native.Nat.{ℕ, _<_}
 use native.Mathlib.Omega.{arith}
 use Rattle.meaning.specs.Values.{Values}
 use Rattle.meaning.specs.Rules as meant
-use Rattle.meaning.specs.Rules.{Book, Met, mapRule}
+use Rattle.meaning.specs.Rules.{Book, Met, mapRule, SameBooks}
 use Rattle.meaning.specs.Labelling.{Labelling, Wanted}
 use Rattle.meaning.specs.Parts.{Parts, Refused, inPart, partValues}
-
--- The same items, and the same rules in the same order.
-pub record SameBooks {A : Type 0} (b c : Book A) : Type 0 where
-  pub items : b .items ≡ c .items
-  pub rules : b .rules ≡ c .rules
-  pub each : (r : ℕ) → r < b .rules → b .rule r ≡ c .rule r
 
 pub turned : {A : Type 0} {b c : Book A} → SameBooks b c → SameBooks c b
 turned s = record { items = sym (s .items); rules = sym (s .rules); each = λ r h. sym (s .each r (omega (arith, s .rules))) }

@@ -17,7 +17,7 @@ use Rattle.laws.specs.Every.{everyBelow}
 use Rattle.meaning.specs.Values.{Values}
 use Rattle.meaning.specs.Rules.{Left, Rule, cap, floor, follow, Book, RuleInside, Inside, LeftInside, joinOver, Met}
 use Rattle.meaning.specs.Labelling.{Labelling}
-use Rattle.meaning.specs.Greatest.{MetDown, MetUp, HeldUp, PushedDown, Between, Greatest, Placed, Pushed}
+use Rattle.meaning.specs.InnerGreatest.{MetDown, MetUp, HeldUp, PushedDown, Between, Greatest, Placed, Pushed}
 use Rattle.meaning.proofs.Lattice.{Lattice}
 use Rattle.meaning.proofs.Search.{every-at, every-all, failing, Failing, failing-tells}
 use Rattle.meaning.proofs.Joins.{joinOver-grows}

@@ -2,20 +2,21 @@
 -- of demands 2 and 3: a wanted labelling exists whenever any labelling does, there is only one, the refused part is the only one, and one part's
 -- labels depend on that part alone.
 -- Assumes nothing.
-use mathlib.Core.Path.{_≡_, refl, sym, _∙_, ap, ap₂, subst}
+use mathlib.Core.Path.{_≡_, refl, sym, _∙_, ap, subst}
 use mathlib.Core.Logic.{_⊎_, inl, inr, ite, dite, if-pos, if-neg}
 use Prim.Native.Nat.{ℕ, zero, suc, _≤_, _<_, min, max}
 use native.Mathlib.Decide.{ℕ-discrete, decLt}
 use native.Mathlib.Nat.{not-suc-le-zero}
 use native.Mathlib.Omega.{arith}
-use Rattle.meaning.specs.Values.{Values, StrictlyBelow, numbers}
-use Rattle.meaning.specs.Rules.{Left, LeftInside, Rule, cap, floor, follow, mapRule, Book, RuleInside, Inside, joinUpTo, joinOver, Met}
+use Rattle.meaning.specs.Values.{numbers}
+use Rattle.meaning.specs.Rules.{Rule, cap, floor, follow, mapRule, Book, RuleInside, Inside, joinUpTo, Met}
 use Rattle.meaning.specs.Labelling.{Labelling, FirstDifference, Wanted, Minimal}
-use Rattle.meaning.specs.Greatest.{MetDown, Placed, Pushed}
-use Rattle.meaning.specs.Lowered.{LabellingBelow, WantedBelow}
-use Rattle.meaning.specs.Parts.{Parts, inPart, partValues, Refused, RefusedBelow, AgreeIn}
+use Rattle.meaning.specs.InnerGreatest.{MetDown, Placed, Pushed}
+use Rattle.meaning.specs.InnerLowered.{LabellingBelow, WantedBelow, RefusedBelow}
+use Rattle.meaning.specs.Parts.{Parts, inPart, partValues, Refused, AgreeIn}
 use Rattle.meaning.proofs.Search.{below-suc}
 use Rattle.meaning.proofs.Same.{met-same, wanted-same}
+use Rattle.meaning.proofs.SameBooks.{turned, wanted-moved}
 use Rattle.meaning.proofs.Placed.{placed-map}
 use Rattle.meaning.proofs.Ordered.{Ordered, wanted-unique, wanted-minimal}
 use Rattle.meaning.proofs.Lowering.{numbersOrdered, wanted-below-top, wanted-or-none}
@@ -260,22 +261,15 @@ module _ (P : Parts) (W : PartLaws P) where
         go (inl (g, wanted)) = absurd (unlabelled g (wanted .labelling))
         go (inr refused) = refused
 
-  -- Demand 3: of two books with the same lines that agree in one part, each item has the same value of that part in both wanted labellings.
-  agree-labelling : {p : ℕ} {b c : Book Val} → AgreeIn P p b c → {h : ℕ → ℕ} → Labelling (partValues P p) (inPart P p b) h → Labelling (partValues P p) (inPart P p c) h
-  agree-labelling {p} {b} {c} agree {h} x = record {
-    labels = λ i s. x .labels i (omega (arith, agree .items));
-    meets = λ r s. subst (λ k. Met (partValues P p) k h) (agree .lines r (omega (arith, agree .rules))) (x .meets r (omega (arith, agree .rules)));
-  }
+-- Demand 3: of two books that agree in one part, each item has the same value of that part in both wanted labellings. Each book's values may have parts of their own;
+-- this one has the same top in both.
+module _ (P : Parts) (W : PartLaws P) (Q : Parts) (W′ : PartLaws Q) {p : ℕ} (isPart : p < P .count) (isPart′ : p < Q .count) (tops : P .top p ≡ Q .top p)
+    {b : Book (P .values .Val)} {c : Book (Q .values .Val)} (inb : Inside b) (inc : Inside c) (agree : AgreeIn P Q p b c) where
+  other-wanted : {g : ℕ → Q .values .Val} → Wanted (Q .values) c g → Wanted (partValues P p) (inPart P p b) (λ i. Q .part p (g i))
+  other-wanted {g} y =
+      wanted-moved (partValues P p) (turned (agree .seen))
+      (subst (λ (top : ℕ). Wanted (numbers top) (inPart Q p c) (λ i. Q .part p (g i))) (sym tops) (wanted-part Q W′ c inc y p isPart′))
 
-  agree-sym : {p : ℕ} {b c : Book Val} → AgreeIn P p b c → AgreeIn P p c b
-  agree-sym agree = record { items = sym (agree .items); rules = sym (agree .rules); lines = λ r s. sym (agree .lines r (omega (arith, agree .rules))) }
-
-  agree-wanted : {p : ℕ} {b c : Book Val} → AgreeIn P p b c → {h : ℕ → ℕ} → Wanted (partValues P p) (inPart P p c) h → Wanted (partValues P p) (inPart P p b) h
-  agree-wanted agree x = record {
-    labelling = agree-labelling (agree-sym agree) (x .labelling);
-    least = λ g y i d. x .least g (agree-labelling agree y) i (record { item = omega (arith, agree .items, d .item); before = d .before; differs = d .differs });
-  }
-
-  pub one-part-alone : {p : ℕ} {b c : Book Val} → p < P .count → Inside b → Inside c → AgreeIn P p b c → {f g : Labels} → Wanted (P .values) b f → Wanted (P .values) c g → (i : ℕ) → i < b .items → P .part p (f i) ≡ P .part p (g i)
-  one-part-alone {p} {b} {c} s inb inc agree x y =
-      wanted-unique (partValues P p) (numbersOrdered (P .top p)) (inPart P p b) (wanted-part b inb x p s) (agree-wanted agree (wanted-part c inc y p s))
+  pub one-part-alone : {f : ℕ → P .values .Val} {g : ℕ → Q .values .Val} → Wanted (P .values) b f → Wanted (Q .values) c g → (i : ℕ) → i < b .items
+      → P .part p (f i) ≡ Q .part p (g i)
+  one-part-alone x y = wanted-unique (partValues P p) (numbersOrdered (P .top p)) (inPart P p b) (wanted-part P W b inb x p isPart) (other-wanted y)

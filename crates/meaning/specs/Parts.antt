@@ -1,12 +1,10 @@
 -- Values that have parts, as a class has a level and marks: a book seen in one part alone, the part that is refused, and books that agree in a
 -- part.
 -- Assumes nothing.
-use mathlib.Core.Path.{_≡_}
 use Prim.Native.Nat.{ℕ, _<_}
 use Rattle.meaning.specs.Values.{Values, numbers}
-use Rattle.meaning.specs.Rules.{Book, mapRule, mapBook}
+use Rattle.meaning.specs.Rules.{Book, mapBook, SameBooks}
 use Rattle.meaning.specs.Labelling.{Labelling}
-use Rattle.meaning.specs.Lowered.{LabellingBelow}
 
 -- How many parts there are, the greatest value of each, and what a value has in a part.
 pub record Parts : Type 1 where
@@ -30,14 +28,6 @@ module _ (P : Parts) where
     pub unmet : (f : ℕ → ℕ) → Labelling (partValues p) (inPart p b) f → ⊥
     pub lower : (q : ℕ) → q < p → (f : ℕ → ℕ) × Labelling (partValues q) (inPart q b) f
 
-  -- The same below a bound u: the lowest part in which no labelling below it meets all rules.
-  pub record RefusedBelow (b : Book (P .values .Val)) (u : ℕ → P .values .Val) (p : ℕ) : Type 0 where
-    pub isPart : p < P .count
-    pub unmet : (f : ℕ → ℕ) → LabellingBelow (partValues p) (inPart p b) (λ i. P .part p (u i)) f → ⊥
-    pub lower : (q : ℕ) → q < p → (f : ℕ → ℕ) × LabellingBelow (partValues q) (inPart q b) (λ i. P .part q (u i)) f
-
-  -- The same items and the same lines, which differ only in the classes written there and agree in those on part p.
-  pub record AgreeIn (p : ℕ) (b c : Book (P .values .Val)) : Type 0 where
-    pub items : b .items ≡ c .items
-    pub rules : b .rules ≡ c .rules
-    pub lines : (r : ℕ) → r < b .rules → mapRule (P .part p) (b .rule r) ≡ mapRule (P .part p) (c .rule r)
+-- Two books agree in part p: seen in that part alone, each in the parts of its own values, they are the same book.
+pub record AgreeIn (P Q : Parts) (p : ℕ) (b : Book (P .values .Val)) (c : Book (Q .values .Val)) : Type 0 where
+  pub seen : SameBooks (inPart P p b) (inPart Q p c)

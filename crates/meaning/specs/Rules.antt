@@ -1,5 +1,6 @@
 -- Rules and books (source 000, definition 2.1, and its section 6 for caps), and what it means that labels meet a rule.
 -- Assumes nothing.
+use mathlib.Core.Path.{_≡_}
 use Prim.Native.Nat.{ℕ, zero, suc, _<_}
 use Rattle.meaning.specs.Values.{Values}
 
@@ -29,6 +30,12 @@ pub record Book (A : Type 0) : Type 0 where
 -- The book of the same lines with other constants.
 abbrev pub mapBook : {A B : Type 0} → (A → B) → Book A → Book B
 mapBook f b = record { items = b .items; rules = b .rules; rule = λ r. mapRule f (b .rule r) }
+
+-- The same items, and the same rules in the same order.
+pub record SameBooks {A : Type 0} (b c : Book A) : Type 0 where
+  pub items : b .items ≡ c .items
+  pub rules : b .rules ≡ c .rules
+  pub each : (r : ℕ) → r < b .rules → b .rule r ≡ c .rule r
 
 -- Every name of a rule is an item of the book.
 pub record LeftInside (n : ℕ) (l : Left) : Type 0 where

@@ -4,13 +4,12 @@
 use mathlib.Core.Path.{_≡_, refl, sym, ap, _∙_}
 use mathlib.Core.Bool.{Bool, true, false, not}
 use mathlib.Core.List.{List, [], _∷_, _++_}
-use Prim.Native.Nat.{ℕ, zero, suc, _+_, _-_, _/_, _%_, _^_, _≤_, _<_, zero-le}
+use Prim.Native.Nat.{ℕ, zero, suc, _+_, _-_, _/_, _%_, _^_, _≤_, _<_}
 use native.Mathlib.Nat.{le-refl, mod-lt}
-use native.Mathlib.Numerals.{add-one}
 use native.Mathlib.Omega.{arith}
 use lib.Dec.{leb}
-use lib.ListN.{length, getD, set, length-append, length-set}
-use lib.Seq.{paste, paste-zero, paste-suc, take-length, append-snoc}
+use lib.ListN.{length, set, length-append, length-set}
+use lib.Seq.{append-snoc}
 use mir.Syntax.{w64}
 use mir.Val.{Fits}
 use borrow.Author.Tests.{leb-true, not-false}
@@ -24,34 +23,16 @@ use Rattle.puts.specs.InnerDigits.{DigitRoom, DigitsPut}
 use Rattle.laws.specs.Over.{over}
 use Rattle.scans.specs.Ascii.{slash}
 use Rattle.puts.proofs.Placed.{put-there, put-nowhere}
-use Rattle.laws.proofs.Over.{over-is, over-none, over-set, over-over, over-length, set-over}
+use Rattle.laws.proofs.Over.{over-none, over-set, over-over, over-length, set-over}
+use Rattle.laws.proofs.Copying.{Copied, copied-all}
 
 -- The test for room.
 pub room-yes : (m n : ℕ) (b : Bool) → b ≡ leb m n → not b ≡ false → m ≤ n
 room-yes m n b e t = leb-true m n (sym e ∙ not-false b t)
 
--- Bytes copied: there is room for them, and i of them are.
-pub record Copied (d : List ℕ) (at : ℕ) (x d′ : List ℕ) (i : ℕ) : Type 0 where
-  pub room : at + length x ≤ length d
-  pub within : i ≤ length x
-  pub kept : length d′ ≡ length d
-  pub copied : d′ ≡ paste d at x i
-
-pub copied-none : (d : List ℕ) (at : ℕ) (x : List ℕ) (b : Bool) → b ≡ leb (at + length x) (length d) → not b ≡ false → Copied d at x d 0
-copied-none d at x b e t = record { room = room-yes (at + length x) (length d) b e t; within = zero-le; kept = refl; copied = paste-zero d at x }
-
-pub copied-more : {d : List ℕ} {at : ℕ} {x d′ : List ℕ} {i : ℕ} → Copied d at x d′ i → i < length x → Copied d at x (set d′ (at + i) (getD x i 0)) (i + 1)
-copied-more {d} {at} {x} {d′} {i} c h = record {
-  room = c .room;
-  within = omega arith;
-  kept = rw length-set (c .kept);
-  copied = rw (c .copied, paste-suc d at x i 0 (omega (arith, c .room)) h, add-one);
-}
-
-pub copied-end : {d : List ℕ} {at : ℕ} {x d′ : List ℕ} {i : ℕ} → Copied d at x d′ i → length x ≤ i → Put d at x d′ (at + length x)
-copied-end {d} {at} {x} {d′} {i} c h =
-    let all : i ≡ length x = omega (arith, c .within) in
-    put-there d at x d′ (at + length x) (c .room) (c .copied ∙ rw (all, take-length) (sym (over-is d at x))) refl
+-- All bytes are copied.
+pub bytes-copied : {d : List ℕ} {at : ℕ} {x d′ : List ℕ} {i : ℕ} → Copied d at x d′ i → length x ≤ i → Put d at x d′ (at + length x)
+bytes-copied {d} {at} {x} {d′} c h = put-there d at x d′ (at + length x) (c .room) (copied-all c h) refl
 
 -- A digit of a base that is at most 16 is below 16.
 pub digit-small : (base k : ℕ) (d : List ℕ) (at v : ℕ) → DigitRoom base k d at → v % base < 16

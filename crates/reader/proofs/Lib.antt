@@ -1,5 +1,5 @@
 -- Why it is true. First what one line does: its key, its value, names looked up, what it adds to the tables. Then a whole text: what is read is right, and where
--- reading refuses. Last the promise: one law for each answer of the code, that it fixes the answer, and what a book that was read says of the lent tables.
+-- reading refuses. Last the promise: one law for each answer of the code, that it fixes the answer, what a book that was read says of the lent tables, and texts that agree.
 pub mod KeyRows
 pub mod LineFacts
 pub mod LineCases
@@ -14,3 +14,4 @@ pub mod Whole
 pub mod Answers
 pub mod Unique
 pub mod Books
+pub mod Agreeing

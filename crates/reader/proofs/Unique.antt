@@ -6,6 +6,7 @@ use Prim.Native.Nat.{ℕ}
 use lib.ListN.{length, getD}
 use Rattle.refusals.specs.Said.{Said, success, refused}
 use Rattle.refusals.proofs.Said.{said-injective, refusalOf, refusal-back}
+use Rattle.rules.specs.declared.Head.{Head}
 use Rattle.reader.specs.declared.ReadBook.{ReadBook}
 use Rattle.reader.specs.Reading.{saidRead, readAnswer, ReadSays}
 
@@ -21,6 +22,10 @@ book-back (ReadBook.Refused r) = ap ReadBook.Refused (refusal-back r)
 pub read-told : {l items rules : List ℕ} {r : ReadBook} {items′ rules′ : List ℕ} → ReadSays l items rules (saidRead r) items′ rules′
     → r ≡ readAnswer l (length items) (length rules)
 read-told s = said-injective saidRead bookOf book-back (s .answer)
+
+-- A text is read as one book.
+pub same-head : {x : ReadBook} {h k : Head} → x ≡ ReadBook.Book h → x ≡ ReadBook.Book k → k ≡ h
+same-head e f = let same = sym f ∙ e in cc
 
 -- Two results of reading are equal.
 pub record Same (a b : ReadBook) (items rules items′ rules′ : List ℕ) : Type 0 where

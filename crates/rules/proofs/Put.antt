@@ -3,46 +3,23 @@
 use mathlib.Core.Path.{_≡_, refl, sym, _∙_}
 use mathlib.Core.Bool.{Bool, true, false}
 use mathlib.Core.List.{List, [], _∷_}
-use Prim.Native.Nat.{ℕ, zero, suc, _+_, _-_, _*_, _≤_, _<_, zero-le}
-use native.Mathlib.Numerals.{add-one}
+use Prim.Native.Nat.{ℕ, zero, suc, _+_, _-_, _*_, _≤_, _<_}
 use native.Mathlib.Omega.{arith}
-use lib.ListN.{length, getD, set, length-set}
-use lib.Seq.{paste, paste-zero, paste-suc, ext-getD}
+use lib.ListN.{length, getD}
+use lib.Seq.{ext-getD}
 use borrow.Author.Tests.{le-leb, lt-leb}
 use Rattle.refusals.specs.Sizes.{mostLeft}
 use Rattle.laws.specs.Over.{over}
 use Rattle.laws.proofs.Over.{over-length}
 use Rattle.laws.proofs.Buffers.{over-before, over-inside}
+use Rattle.laws.proofs.Copying.{Copied, copied-all}
 use Rattle.rules.specs.declared.Rule.{Rule}
 use Rattle.rules.specs.Table.{ruleWords, wordAt, ruleAt, wordsOf, WordsPut}
 use Rattle.rules.proofs.Words.{rule-by-words}
 
--- Words copied one after the other: i of them are.
-pub record Copied (x : List ℕ) (at : ℕ) (d d′ : List ℕ) (i : ℕ) : Type 0 where
-  pub within : i ≤ length x
-  pub kept : length d′ ≡ length d
-  pub copied : d′ ≡ paste d at x i
-
-pub copied-none : {x : List ℕ} {at : ℕ} {d : List ℕ} → Copied x at d d 0
-copied-none {x} {at} {d} = record { within = zero-le; kept = refl; copied = paste-zero d at x }
-
--- The place is inside the table, and there is room.
-module _ {x : List ℕ} {at : ℕ} {d d′ : List ℕ} {i : ℕ} (c : Copied x at d d′ i) (inside : at ≤ length d) (room : length x ≤ length d - at) where
-  pub copied-room : i < length x → at + i < length d′
-  copied-room h = omega (arith, c .kept)
-
-  pub copied-more : i < length x → Copied x at d (set d′ (at + i) (getD x i 0)) (i + 1)
-  copied-more h = record {
-    within = omega arith;
-    kept = rw length-set (c .kept);
-    copied = rw (c .copied, paste-suc d at x i 0 (omega arith) h, add-one);
-  }
-
-  pub copied-all : length x ≤ i → WordsPut x at d true d′
-  unfolding over
-  copied-all h =
-      let all : i ≡ length x = omega (arith, c .within) in
-      record { told = rw (le-leb (at + length x) (length d) (omega arith)); table = rw all at (c .copied) }
+-- All words are copied.
+pub words-copied : {x : List ℕ} {at : ℕ} {d d′ : List ℕ} {i : ℕ} → Copied d at x d′ i → length x ≤ i → WordsPut x at d true d′
+words-copied {x} {at} {d} c h = record { told = rw (le-leb (at + length x) (length d) (c .room)); table = copied-all c h }
 
 -- There is no room.
 pub put-no-room : {x : List ℕ} {at : ℕ} {d : List ℕ} → length d < at + length x → WordsPut x at d false d

@@ -18,7 +18,7 @@ use Rattle.refusals.specs.declared.Fault.{Fault}
 use Rattle.refusals.specs.Sizes.{mostItems}
 use Rattle.refusals.specs.Said.{success, refusedBy}
 use Rattle.meaning.specs.Classes.{classes, classParts}
-use Rattle.meaning.specs.Parts.{RefusedBelow}
+use Rattle.meaning.specs.InnerLowered.{RefusedBelow}
 use Rattle.meaning.proofs.Classes.{classLaws}
 use Rattle.meaning.proofs.Same.{wanted-same}
 use Rattle.meaning.proofs.Whole.{parts-wanted-below, refused-below}

@@ -16,8 +16,8 @@ use Rattle.classes.specs.declared.Class.{Class}
 use Rattle.classes.proofs.Bits.{bit-small, bit-of-zero}
 use Rattle.meaning.specs.Rules.{Book, Inside}
 use Rattle.meaning.specs.Values.{numbers}
-use Rattle.meaning.specs.Greatest.{HeldUp, Greatest, Placed}
-use Rattle.meaning.specs.Lowered.{Lowered, NoneLess}
+use Rattle.meaning.specs.InnerGreatest.{HeldUp, Greatest, Placed}
+use Rattle.meaning.specs.InnerLowered.{Lowered, NoneLess}
 use Rattle.meaning.proofs.Same.{lowered-same}
 use Rattle.meaning.proofs.Lowering.{attempt-fails, lowered-step, lowered-stays}
 use Rattle.rules.specs.declared.Head.{Head}

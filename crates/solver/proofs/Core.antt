@@ -12,9 +12,8 @@ use Rattle.classes.specs.Parts.{partCount, part, topOf}
 use Rattle.classes.specs.declared.Class.{Class}
 use Rattle.classes.proofs.Bits.{bit-ext, bit-of-zero}
 use Rattle.meaning.specs.Rules.{Inside}
-use Rattle.meaning.specs.Lowered.{LabellingBelow}
+use Rattle.meaning.specs.InnerLowered.{LabellingBelow, RefusedBelow}
 use Rattle.meaning.specs.Classes.{classParts}
-use Rattle.meaning.specs.Parts.{RefusedBelow}
 use Rattle.meaning.proofs.Settle.{greatest-labels, greatest-held}
 use Rattle.meaning.proofs.Lowering.{numbersLattice, lowered-start, lowered-end}
 use Rattle.rules.specs.declared.Head.{Head}

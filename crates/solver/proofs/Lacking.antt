@@ -14,7 +14,7 @@ use Rattle.classes.specs.declared.Class.{Class}
 use Rattle.classes.proofs.Bits.{bit-small, bit-and, bit-not}
 use Rattle.classes.proofs.Parts.{join-parts, lowest-parts}
 use Rattle.meaning.specs.Rules.{mapRule, joinOver}
-use Rattle.meaning.specs.Greatest.{MetUp}
+use Rattle.meaning.specs.InnerGreatest.{MetUp}
 use Rattle.meaning.specs.Classes.{classes, classParts}
 use Rattle.meaning.proofs.Classes.{classLaws}
 use Rattle.meaning.proofs.Whole.{joins-parts}

@@ -10,7 +10,7 @@ use native.Mathlib.Omega.{arith}
 use Rattle.classes.specs.Class.{topLevel}
 use Rattle.classes.specs.Parts.{partCount, part, topOf}
 use Rattle.meaning.specs.Rules.{Book}
-use Rattle.meaning.specs.Lowered.{Lowered, NoneLess}
+use Rattle.meaning.specs.InnerLowered.{Lowered, NoneLess}
 use Rattle.meaning.proofs.Same.{lowered-same}
 use Rattle.rules.specs.declared.Head.{Head}
 use Rattle.solver.specs.Solving.{Buffers}

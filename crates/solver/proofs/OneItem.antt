@@ -11,7 +11,7 @@ use lib.Seq.{getD-set-same, getD-set-other}
 use Rattle.classes.specs.Class.{classOf, Covers, commonOf}
 use Rattle.laws.specs.Tells.{Tells}
 use Rattle.classes.specs.declared.Class.{Class}
-use Rattle.meaning.specs.Greatest.{Placed}
+use Rattle.meaning.specs.InnerGreatest.{Placed}
 use Rattle.solver.specs.Solving.{Buffers, held, labelsOf}
 use Rattle.solver.specs.InnerSteps.{sum, sumOf, Tracks, LowersItem}
 use Rattle.solver.proofs.Common.{common-covered, common-falls}

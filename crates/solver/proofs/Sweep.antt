@@ -12,7 +12,7 @@ use lib.ListN.{length}
 use Rattle.classes.specs.Parts.{partCount, topOf}
 use Rattle.classes.specs.declared.Class.{Class}
 use Rattle.meaning.specs.Rules.{Inside}
-use Rattle.meaning.specs.Greatest.{MetDown, Between}
+use Rattle.meaning.specs.InnerGreatest.{MetDown, Between}
 use Rattle.meaning.specs.Classes.{classes, classParts}
 use Rattle.meaning.proofs.Settle.{between-start, between-push, between-trans, between-met}
 use Rattle.meaning.proofs.Lowering.{numbersLattice}

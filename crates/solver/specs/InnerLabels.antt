@@ -3,8 +3,7 @@
 use mathlib.Core.List.{List}
 use Prim.Native.Nat.{ℕ, _≤_, _<_}
 use Rattle.classes.specs.Parts.{partCount, topOf}
-use Rattle.meaning.specs.Lowered.{WantedBelow}
-use Rattle.meaning.specs.Parts.{RefusedBelow}
+use Rattle.meaning.specs.InnerLowered.{WantedBelow, RefusedBelow}
 use Rattle.meaning.specs.Classes.{classParts}
 use Rattle.rules.specs.declared.Head.{Head}
 use Rattle.rules.specs.Table.{bookOf}

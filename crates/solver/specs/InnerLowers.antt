@@ -9,7 +9,7 @@ use Rattle.classes.specs.Bits.{bit}
 use Rattle.classes.specs.Class.{topLevel}
 use Rattle.classes.specs.Parts.{partCount}
 use Rattle.classes.specs.declared.Class.{Class}
-use Rattle.meaning.specs.Lowered.{Lowered, NoneLess}
+use Rattle.meaning.specs.InnerLowered.{Lowered, NoneLess}
 use Rattle.labels.specs.Labels.{Room}
 use Rattle.rules.specs.declared.Head.{Head}
 use Rattle.solver.specs.Solving.{Buffers, held, labelsOf, RestKept}

@@ -9,7 +9,7 @@ use Rattle.classes.specs.Class.{Covers, commonOf}
 use Rattle.classes.specs.Parts.{partCount, part}
 use Rattle.classes.specs.declared.Class.{Class}
 use Rattle.refusals.specs.Sizes.{mostItems}
-use Rattle.meaning.specs.Greatest.{MetDown, MetUp, HeldUp, Between, Greatest, Placed, Pushed}
+use Rattle.meaning.specs.InnerGreatest.{MetDown, MetUp, HeldUp, Between, Greatest, Placed, Pushed}
 use Rattle.meaning.specs.Parts.{inPart, partValues}
 use Rattle.meaning.specs.Rules.{Rule, mapRule, Book, Inside, RuleInside}
 use Rattle.meaning.specs.Values.{Values}

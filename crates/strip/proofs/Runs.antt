@@ -2,7 +2,7 @@
 -- differ only in columns held back leave the same bytes. It rests on the same of the calls of `strip` and of `kept_columns`.
 -- Assumes nothing.
 use mathlib.Core.Path.{_≡_, refl, sym, ap, subst, _∙_}
-use mathlib.Core.Bool.{Bool, true, false}
+use mathlib.Core.Bool.{Bool, true}
 use mathlib.Core.List.{List, [], _∷_, _++_, append-nil}
 use Prim.Native.Nat.{ℕ}
 use native.Mathlib.Omega.{arith}
@@ -14,7 +14,6 @@ use Rattle.rules.specs.declared.Head.{Head}
 use Rattle.assign.specs.Assigning.{Lent, saidHead, saidAssigned, AssignSays}
 use Rattle.assign.specs.declared.Assigned.{Assigned}
 use Rattle.assign.proofs.Unique.{assign-unique}
-use Rattle.exports.specs.Reading.{LastOnly, allOf}
 use Rattle.exports.specs.Text.{Verdict, accepted, refused, Outcome, strippedFrom}
 use Rattle.exports.proofs.HeldBack.{held-back-leaves-no-trace}
 use Rattle.columns.specs.Reader.{saidReader, ReaderSays}
@@ -23,39 +22,43 @@ use Rattle.columns.specs.Columns.{saidKept, saidMore, saidColumns}
 use Rattle.columns.specs.declared.Columns.{Columns}
 use Rattle.columns.proofs.Unique.{Same, columns-unique, reader-unique}
 use Rattle.columns.proofs.Pieces.{columns-stay}
+use Rattle.stripping.specs.Calls.{allOf, noneToCome}
 use Rattle.stripping.proofs.Calls.{calls-strip}
-use Rattle.strip.specs.Runs.{LentRoom, Opened, Opens, OpenedSays, KeptIn, RefusedFirst, by-book, by-class, by-header, LeftOf, refused-first, stripped, Runs, refuses, strips, DifferHeldBack}
+use Rattle.stripping.proofs.Reading.{same-bytes}
+use Rattle.strip.specs.Runs.{LentRoom, Opened, Opens, OpenedSays, KeptIn, RefusedFirst, by-book, by-class, by-header, LeftOf, refused-first, stripped}
+use Rattle.strip.specs.Runs.{Runs, waits, strips, refuses, DifferHeldBack}
 
--- What is said of the first piece is said of the whole export.
-whole-says : {o : Opened} {first : List ℕ} {rest : List (List ℕ)} {before : List Bool} {s : Said} {after : List Bool} (last : Bool) → LastOnly last rest
-    → OpenedSays o first last before s after → (s ≡ saidMore → ⊥) → OpenedSays o (first ++ allOf rest) true before s after
+-- What is said of what is held, unless it is that the header needs more, is said of the whole export.
+whole-says : {o : Opened} (held : List ℕ) (pieces : List (List ℕ)) {before : List Bool} {s : Said} {after : List Bool}
+    → OpenedSays o held (noneToCome pieces) before s after → (s ≡ saidMore → ⊥) → OpenedSays o (held ++ allOf pieces) true before s after
 unfolding allOf
-whole-says {o} {first} {rest} {before} {s} {after} true only p h =
-    subst (λ (x : List ℕ). OpenedSays o x true before s after)
-    (sym (ap (λ (ps : List (List ℕ)). first ++ allOf ps) (only .none refl) ∙ append-nil first)) p
-whole-says {first = first} {rest} false only p h = columns-stay true first (allOf rest) p h
+whole-says {o} held [] {before} {s} {after} p h = subst (λ (x : List ℕ). OpenedSays o x true before s after) (sym (append-nil held)) p
+whole-says held (piece ∷ pieces) p h = columns-stay true held (allOf (piece ∷ pieces)) p h
 
-whole-refused : {room : LentRoom} {book class first : List ℕ} {rest : List (List ℕ)} {r : Refusal} (last : Bool) → LastOnly last rest
-    → RefusedFirst room book class first last r → RefusedFirst room book class (first ++ allOf rest) true r
-whole-refused last only (by-book p) = by-book p
-whole-refused last only (by-class p q) = by-class p q
-whole-refused last only (by-header p room q) = by-header p room (whole-says last only q (λ e. let z : _≡_ {A = ℕ} 0 1 = cc in omega arith))
+whole-refused : {room : LentRoom} {book class : List ℕ} (held : List ℕ) (pieces : List (List ℕ)) {r : Refusal}
+    → RefusedFirst room book class held (noneToCome pieces) r → RefusedFirst room book class (held ++ allOf pieces) true r
+whole-refused held pieces (by-book p) = by-book p
+whole-refused held pieces (by-class p q) = by-class p q
+whole-refused held pieces (by-header p room q) = by-header p room (whole-says held pieces q (λ e. let z : _≡_ {A = ℕ} 0 1 = cc in omega arith))
 
--- However an export is cut, a run leaves what is left of the whole.
-pub runs-leave : {room : LentRoom} {book class : List ℕ} {pieces : List (List ℕ)} {text : List ℕ} {v : Verdict} → Runs room book class pieces text v
-    → LeftOf room book class (allOf pieces) text v
-unfolding allOf
-runs-leave (refuses last only p) = refused-first (whole-refused last only p)
-runs-leave (strips last only p calls) =
-    stripped (record {
-      opened = p .opened;
-      opens = p .opens;
-      count = p .count;
-      after = p .after;
-      says = whole-says last only (p .says) (λ e. let z : _≡_ {A = ℕ} 0 1 = cc in omega arith);
-      is = p .is;
-    })
-    (calls-strip calls)
+whole-kept : {room : LentRoom} {book class : List ℕ} (held : List ℕ) (pieces : List (List ℕ)) {kept : List Bool} → KeptIn room book class held (noneToCome pieces) kept
+    → KeptIn room book class (held ++ allOf pieces) true kept
+whole-kept held pieces p = record {
+  opened = p .opened;
+  opens = p .opens;
+  count = p .count;
+  after = p .after;
+  says = whole-says held pieces (p .says) (λ e. let z : _≡_ {A = ℕ} 0 1 = cc in omega arith);
+  is = p .is;
+}
+
+-- "The routine computes the definition, however the input was cut into reads": a run leaves what is left of the whole export.
+pub runs-leave : {room : LentRoom} {book class held : List ℕ} {pieces : List (List ℕ)} {text : List ℕ} {v : Verdict} → Runs room book class held pieces text v
+    → LeftOf room book class (held ++ allOf pieces) text v
+runs-leave {room} {book} {class} {text = text} {v} (waits o says read run) =
+    subst (λ (x : List ℕ). LeftOf room book class x text v) (sym (same-bytes read)) (runs-leave run)
+runs-leave {held = held} {pieces} (strips p calls) = stripped (whole-kept held pieces p) (calls-strip calls)
+runs-leave {held = held} {pieces} (refuses p) = refused-first (whole-refused held pieces p)
 
 -- A book and a class are opened in one way.
 labelled-same : {book : List ℕ} {lent a b : Lent} {h k : Head} → AssignSays book lent (saidHead h) a → AssignSays book lent (saidHead k) b → (h ≡ k) × (a ≡ b)
@@ -77,7 +80,8 @@ opens-unique {o = o} {u} p q =
     reader = let e = reader-unique {r = Reader.Known (o .reader)} {s = Reader.Known (u .reader)} (p .known) (q .known) in cc
 
 -- The columns that are kept are the same whenever they are asked for.
-pub kept-unique : {room : LentRoom} {book class export : List ℕ} {last : Bool} {k m : List Bool} → KeptIn room book class export last k → KeptIn room book class export last m → k ≡ m
+pub kept-unique : {room : LentRoom} {book class export : List ℕ} {last : Bool} {k m : List Bool} → KeptIn room book class export last k
+    → KeptIn room book class export last m → k ≡ m
 kept-unique {room} {export = export} {last} p q =
     p .is ∙ ap (λ (n : ℕ). take n (p .after)) count ∙ ap (take (q .count)) (same .buffer) ∙ sym (q .is)
   where
@@ -97,7 +101,8 @@ no-reader : {class : List ℕ} (r : Refusal) {c : Class} → ReaderSays class (s
 no-reader r {c} p q = let e = reader-unique {r = Reader.Refused r} {s = Reader.Known c} p q in let z : _≡_ {A = ℕ} 0 1 = cc in omega arith
 
 -- Refused first, or columns are kept, and never both; and the refusal is one.
-refused-same : {room : LentRoom} {book class export : List ℕ} {last : Bool} {r s : Refusal} → RefusedFirst room book class export last r → RefusedFirst room book class export last s → r ≡ s
+refused-same : {room : LentRoom} {book class export : List ℕ} {last : Bool} {r s : Refusal} → RefusedFirst room book class export last r
+    → RefusedFirst room book class export last s → r ≡ s
 refused-same {r = r} {s} (by-book p) (by-book q) = let e = assign-unique {x = Assigned.Refused r} {y = Assigned.Refused s} p q .0 in cc
 refused-same {r = r} {s} (by-book p) (by-class q c) = absurd (never r p q)
 refused-same {r = r} {s} (by-book p) (by-header o fits q) = absurd (never r p (o .assigned))
@@ -111,7 +116,8 @@ refused-same {room} {export = export} {last} {r} {s} (by-header p x y) (by-heade
     let e = columns-unique {r = Columns.Refused r} {s = Columns.Refused s} y moved .answer in
     cc
 
-not-kept : {room : LentRoom} {book class export : List ℕ} {last : Bool} {r : Refusal} {k : List Bool} → RefusedFirst room book class export last r → KeptIn room book class export last k → ⊥
+not-kept : {room : LentRoom} {book class export : List ℕ} {last : Bool} {r : Refusal} {k : List Bool} → RefusedFirst room book class export last r
+    → KeptIn room book class export last k → ⊥
 not-kept {r = r} (by-book p) q = never r p (q .opens .assigned)
 not-kept {r = r} (by-class p c) q = no-reader r c (q .opens .known)
 not-kept {room} {export = export} {last} {r} (by-header {after = after} p x y) q =
@@ -120,7 +126,7 @@ not-kept {room} {export = export} {last} {r} (by-header {after = after} p x y) q
     let z : _≡_ {A = ℕ} 0 1 = cc in
     omega arith
 
--- A run has only one outcome, however the export was cut.
+-- One thing only is left of an export.
 pub record SameLeft (x y : List ℕ) (v w : Verdict) : Type 0 where
   pub text : x ≡ y
   pub verdict : v ≡ w
@@ -135,12 +141,22 @@ left-unique (stripped p e) (refused-first q) = absurd (not-kept q p)
 left-unique {export = export} (stripped p e) (stripped q f) =
     same-outcome e (ap (λ (k : List Bool). strippedFrom k 1 export) (kept-unique p q) ∙ f)
 
+-- Whatever runs there are over the pieces of one export, they have one outcome, however it was cut for each.
+pub runs-unique : {room : LentRoom} {book class : List ℕ} {pieces piecesToo : List (List ℕ)} {x y : List ℕ} {v w : Verdict} → allOf pieces ≡ allOf piecesToo
+    → Runs room book class [] pieces x v → Runs room book class [] piecesToo y w → SameLeft x y v w
+runs-unique {room} {book} {class} {x = x} {v = v} e p q = left-unique (subst (λ (z : List ℕ). LeftOf room book class z x v) e (runs-leave p)) (runs-leave q)
+
 -- "Accepted exports that differ only in columns held back give the same bytes."
 pub held-back-same : {room : LentRoom} {book class a b x y : List ℕ} → DifferHeldBack room book class a b → LeftOf room book class a x accepted
     → LeftOf room book class b y accepted → x ≡ y
 held-back-same {a = a} {b} d (stripped p e) (stripped q f) =
     sym (ap (λ (o : Outcome). o .text) e)
     ∙ ap (λ (k : List Bool). strippedFrom k 1 a .text) (kept-unique p (d .first))
-    ∙ held-back-leaves-no-trace (d .kept) 1 a b (d .apart)
+    ∙ held-back-leaves-no-trace (d .kept) (d .keptToo) 1 1 a b (d .apart)
     ∙ ap (λ (k : List Bool). strippedFrom k 1 b .text) (kept-unique (d .second) q)
     ∙ ap (λ (o : Outcome). o .text) f
+
+-- So do runs on them, however each was cut.
+pub runs-hold-back : {room : LentRoom} {book class : List ℕ} {pieces piecesToo : List (List ℕ)} {x y : List ℕ}
+    → DifferHeldBack room book class (allOf pieces) (allOf piecesToo) → Runs room book class [] pieces x accepted → Runs room book class [] piecesToo y accepted → x ≡ y
+runs-hold-back d p q = held-back-same d (runs-leave p) (runs-leave q)

@@ -2,8 +2,8 @@
 -- pieces that it reads.
 -- Assumes nothing.
 use mathlib.Core.Path.{_≡_}
-use mathlib.Core.Bool.{Bool, true}
-use mathlib.Core.List.{List, [], _∷_}
+use mathlib.Core.Bool.{Bool, true, false}
+use mathlib.Core.List.{List, []}
 use Prim.Native.Nat.{ℕ, _≤_}
 use lib.ListN.{length, take}
 use Rattle.classes.specs.declared.Class.{Class}
@@ -14,13 +14,12 @@ use Rattle.assign.specs.Assigning.{Lent, saidHead, saidAssigned, AssignSays}
 use Rattle.assign.specs.declared.Assigned.{Assigned}
 use Rattle.records.specs.Rows.{mostFields}
 use Rattle.exports.specs.Rows.{taken}
-use Rattle.exports.specs.Reading.{LastOnly}
 use Rattle.exports.specs.Text.{Verdict, refused, strippedFrom, HeldBackApart}
 use Rattle.columns.specs.Reader.{saidReader, ReaderSays}
 use Rattle.columns.specs.declared.Reader.{Reader}
-use Rattle.columns.specs.Columns.{saidKept, saidColumns, ColumnsSays}
+use Rattle.columns.specs.Columns.{saidKept, saidMore, saidColumns, ColumnsSays}
 use Rattle.columns.specs.declared.Columns.{Columns}
-use Rattle.stripping.specs.Calls.{Calls}
+use Rattle.stripping.specs.Calls.{noneToCome, NextRead, Calls}
 
 -- The buffers that are lent for the items, their labels and the columns.
 pub record LentRoom : Type 0 where
@@ -68,16 +67,22 @@ pub data LeftOf (room : LentRoom) (book class export : List ℕ) : List ℕ → 
   stripped : {kept : List Bool} {text : List ℕ} {v : Verdict} → KeptIn room book class export true kept →
       strippedFrom kept 1 export ≡ record { text = text; verdict = v } → LeftOf room book class export text v
 
--- The calls of a run on the pieces of an export: `assign`, `reader_class` and, on the first piece, `kept_columns`; and then, from record 1 on, those of `strip`.
-pub data Runs (room : LentRoom) (book class : List ℕ) : List (List ℕ) → List ℕ → Verdict → Type 0 where
-  refuses : {first : List ℕ} {rest : List (List ℕ)} {r : Refusal} (last : Bool) → LastOnly last rest → RefusedFirst room book class first last r →
-      Runs room book class (first ∷ rest) [] (refused r)
-  strips : {first : List ℕ} {rest : List (List ℕ)} {kept : List Bool} {text : List ℕ} {v : Verdict} (last : Bool) → LastOnly last rest →
-      KeptIn room book class first last kept → Calls kept 1 first rest text v → Runs room book class (first ∷ rest) text v
+-- A run over the bytes that are held and the pieces to come, which starts with nothing held. The book being labelled and the class read, `kept_columns` is called on what is
+-- held. Where the header does not end in it, there is a read, and it is called again. With the columns that are kept `strip` is called, from record 1 on. A refusal ends the
+-- run, so that what is held is judged before the next read.
+pub data Runs (room : LentRoom) (book class : List ℕ) : List ℕ → List (List ℕ) → List ℕ → Verdict → Type 0 where
+  waits : {held held′ : List ℕ} {pieces pieces′ : List (List ℕ)} {text : List ℕ} {v : Verdict} {o : Opened} {after : List Bool} → Opens room book class o →
+      OpenedSays o held false (room .columns) saidMore after → NextRead held pieces held′ pieces′ → Runs room book class held′ pieces′ text v →
+      Runs room book class held pieces text v
+  strips : {held : List ℕ} {pieces : List (List ℕ)} {text : List ℕ} {v : Verdict} {kept : List Bool} → KeptIn room book class held (noneToCome pieces) kept →
+      Calls kept 1 held pieces text v → Runs room book class held pieces text v
+  refuses : {held : List ℕ} {pieces : List (List ℕ)} {r : Refusal} → RefusedFirst room book class held (noneToCome pieces) r →
+      Runs room book class held pieces [] (refused r)
 
--- Two exports "differ only in columns held back": the same columns are kept of both, and in these their records have the same bytes.
+-- Two exports "differ only in columns held back": of each some columns are kept, and in these their records have the same bytes.
 pub record DifferHeldBack (room : LentRoom) (book class a b : List ℕ) : Type 0 where
   pub kept : List Bool
+  pub keptToo : List Bool
   pub first : KeptIn room book class a true kept
-  pub second : KeptIn room book class b true kept
-  pub apart : HeldBackApart kept (taken true (length kept) a .rows) (taken true (length kept) b .rows)
+  pub second : KeptIn room book class b true keptToo
+  pub apart : HeldBackApart kept keptToo (taken true (length kept) a .rows) (taken true (length keptToo) b .rows)

@@ -2,13 +2,13 @@
 -- are held back leave no trace in what they write. It rests on the same of the definition.
 -- Assumes nothing.
 use mathlib.Core.Path.{_≡_, refl, sym, ap, subst, _∙_}
-use mathlib.Core.Bool.{Bool, true, false, cond, _&&_}
+use mathlib.Core.Bool.{Bool, true, false, false≢true, cond, _&&_}
 use mathlib.Core.List.{List, [], _∷_, _++_}
 use Prim.Native.Nat.{ℕ, _+_, _≤_}
 use native.Mathlib.Nat.{zero-add}
 use native.Mathlib.Omega.{arith}
 use lib.Dec.{ltb, eqb}
-use lib.ListN.{length, getD, take, drop}
+use lib.ListN.{length, getD, take}
 use borrow.Author.Tests.{ltb-false}
 use Rattle.records.specs.Rows.{mostFields}
 use Rattle.refusals.specs.Numbers.{faultNumber}
@@ -17,15 +17,14 @@ use Rattle.refusals.specs.Sizes.{mostText}
 use Rattle.refusals.specs.declared.Fault.{Fault}
 use Rattle.laws.proofs.Over.{over-length, take-over}
 use Rattle.exports.specs.Rows.{Taken, taken}
-use Rattle.exports.specs.Reading.{Run, allOf}
 use Rattle.exports.specs.Text.{Outcome, strippedFrom, HeldBackApart, Verdict, badRecord}
-use Rattle.exports.specs.Reading as run
 use Rattle.exports.proofs.Taking.{taken-within}
-use Rattle.exports.proofs.Cuts.{cuts-do-not-matter}
+use Rattle.exports.proofs.Cuts.{Lastly, after-writing, after-refusing, after-all}
 use Rattle.exports.proofs.HeldBack.{held-back-leaves-no-trace}
 use Rattle.stripping.specs.Stripping.{saidCut, answerTo, madeOf, stripAnswer, StripSays}
-use Rattle.stripping.specs.Calls.{Calls, reads, writes, refuses, done}
+use Rattle.stripping.specs.Calls.{allOf, noneToCome, Calls, writes, reads, done, refuses}
 use Rattle.stripping.proofs.Says.{first-bad}
+use Rattle.stripping.proofs.Reading.{same-bytes}
 
 -- What an answer says of what was taken.
 record TextIs (room n : ℕ) (t : Taken) (u m k : ℕ) : Type 0 where
@@ -97,27 +96,26 @@ no-rows : (rows : List (List (List ℕ))) → 0 ≡ length rows → rows ≡ []
 no-rows [] e = refl
 no-rows (r ∷ rows) e = absurd (omega (arith, e))
 
--- The calls are a run of the definition.
-calls-run : {kept : List Bool} {number : ℕ} {held : List ℕ} {pieces : List (List ℕ)} {text : List ℕ} {v : Verdict} → Calls kept number held pieces text v
-    → Run kept number held pieces text v
-calls-run (reads p) = run.reads (calls-run p)
-calls-run {kept} {number} {held} {pieces} (writes {text = text} {v} {used} {n} {k} {out} {out′} last only says p) =
-    subst (λ (x : List ℕ). Run kept number held pieces (x ++ text) v) (sym (written held last kept number out out′ says))
-    (run.writes last only
-    (subst (λ (j : ℕ). Run kept (number + j) (drop (taken last (length kept) held .used) held) pieces text v) (is .count)
-    (subst (λ (j : ℕ). Run kept (number + k) (drop j held) pieces text v) (is .used) (calls-run p))))
-  where
-    is : TextIs (length out) (length (madeOf held last kept)) (taken last (length kept) held) used n k
-    is = says-is held last kept number out (saidCut used n k) out′ says
-calls-run {kept} {number} {held} {pieces} (refuses {place = place} {out = out} {out′} last only says) =
-    subst (λ (j : ℕ). Run kept number held pieces [] (badRecord j)) (sym (is .at)) (run.refuses last only (bad .0) (bad .1))
-  where
-    is : RefusedIs number (taken last (length kept) held) place
-    is = says-is held last kept number out (refusedBy Fault.CsvSyntax place) out′ says refl
+-- Behind the last text nothing comes.
+lastly : (pieces : List (List ℕ)) → Lastly (noneToCome pieces) (allOf pieces)
+unfolding allOf
+lastly [] e = refl
+lastly (p ∷ ps) e = absurd (false≢true e)
 
-    bad : (taken last (length kept) held .rows ≡ []) × (taken last (length kept) held .faulty ≡ true)
-    bad = first-bad (taken last (length kept) held .rows) (taken last (length kept) held .faulty) (is .bad)
-calls-run {kept} {number} {held} (done {used = used} {n} {out = out} {out′} says) = run.done none (sound (taken true (length kept) held .faulty) none (is .good))
+-- "prove that the routine .. computes it, however the input was cut into reads": calls on the pieces of an export write what is left of the whole of it.
+pub calls-strip : {kept : List Bool} {number : ℕ} {held : List ℕ} {pieces : List (List ℕ)} {text : List ℕ} {v : Verdict} → Calls kept number held pieces text v
+    → strippedFrom kept number (held ++ allOf pieces) ≡ record { text = text; verdict = v }
+unfolding allOf
+calls-strip {kept} {number} {held} {pieces} (writes {text = text} {v} {used} {n} {k} {out} {out′} says some p) =
+    subst (λ (x : List ℕ). strippedFrom kept number (held ++ allOf pieces) ≡ record { text = x ++ text; verdict = v })
+    (sym (written held (noneToCome pieces) kept number out out′ says))
+    (after-writing kept number held (allOf pieces) (noneToCome pieces) (lastly pieces) (rw (is .count, is .used) at (calls-strip p)))
+  where
+    is : TextIs (length out) (length (madeOf held (noneToCome pieces) kept)) (taken (noneToCome pieces) (length kept) held) used n k
+    is = says-is held (noneToCome pieces) kept number out (saidCut used n k) out′ says
+calls-strip {kept} {number} (reads says read p) = ap (strippedFrom kept number) (same-bytes read) ∙ calls-strip p
+calls-strip {kept} {number} {held} (done {used = used} {n} {out} {out′} says) =
+    after-all kept number held none (sound (taken true (length kept) held .faulty) none (is .good))
   where
     is : TextIs (length out) (length (madeOf held true kept)) (taken true (length kept) held) used n 0
     is = says-is held true kept number out (saidCut used n 0) out′ says
@@ -127,17 +125,22 @@ calls-run {kept} {number} {held} (done {used = used} {n} {out = out} {out′} sa
 
     sound : (b : Bool) → taken true (length kept) held .rows ≡ [] → (eqb (length (taken true (length kept) held .rows)) 0 && b) ≡ false → b ≡ false
     sound b e h = subst (λ (rows : List (List (List ℕ))). (eqb (length rows) 0 && b) ≡ false) e h
+calls-strip {kept} {number} {held} {pieces} (refuses {place = place} {out} {out′} says) =
+    subst (λ (j : ℕ). strippedFrom kept number (held ++ allOf pieces) ≡ record { text = []; verdict = badRecord j }) (sym (is .at))
+    (after-refusing kept number held (allOf pieces) (noneToCome pieces) (lastly pieces) (bad .0) (bad .1))
+  where
+    is : RefusedIs number (taken (noneToCome pieces) (length kept) held) place
+    is = says-is held (noneToCome pieces) kept number out (refusedBy Fault.CsvSyntax place) out′ says refl
 
--- "prove that the routine .. computes it, however the input was cut into reads".
-pub calls-strip : {kept : List Bool} {number : ℕ} {held : List ℕ} {pieces : List (List ℕ)} {text : List ℕ} {v : Verdict} → Calls kept number held pieces text v
-    → strippedFrom kept number (held ++ allOf pieces) ≡ record { text = text; verdict = v }
-calls-strip p = cuts-do-not-matter (calls-run p)
+    bad : (taken (noneToCome pieces) (length kept) held .rows ≡ []) × (taken (noneToCome pieces) (length kept) held .faulty ≡ true)
+    bad = first-bad (taken (noneToCome pieces) (length kept) held .rows) (taken (noneToCome pieces) (length kept) held .faulty) (is .bad)
 
 -- "Accepted exports that differ only in columns held back give the same bytes", however each was cut into reads.
-pub calls-hold-back : {kept : List Bool} {number : ℕ} {held held′ : List ℕ} {pieces pieces′ : List (List ℕ)} {text text′ : List ℕ} {v v′ : Verdict}
-    → Calls kept number held pieces text v → Calls kept number held′ pieces′ text′ v′
-    → HeldBackApart kept (taken true (length kept) (held ++ allOf pieces) .rows) (taken true (length kept) (held′ ++ allOf pieces′) .rows) → text ≡ text′
-calls-hold-back {kept} {number} {held} {held′} {pieces} {pieces′} p q apart =
+pub calls-hold-back : {kept keptToo : List Bool} {number numberToo : ℕ} {held heldToo : List ℕ} {pieces piecesToo : List (List ℕ)} {text textToo : List ℕ}
+    {v w : Verdict} → Calls kept number held pieces text v → Calls keptToo numberToo heldToo piecesToo textToo w
+    → HeldBackApart kept keptToo (taken true (length kept) (held ++ allOf pieces) .rows) (taken true (length keptToo) (heldToo ++ allOf piecesToo) .rows)
+    → text ≡ textToo
+calls-hold-back {kept} {keptToo} {number} {numberToo} {held} {heldToo} {pieces} {piecesToo} p q apart =
     sym (ap (λ (o : Outcome). o .text) (calls-strip p))
-    ∙ held-back-leaves-no-trace kept number (held ++ allOf pieces) (held′ ++ allOf pieces′) apart
+    ∙ held-back-leaves-no-trace kept keptToo number numberToo (held ++ allOf pieces) (heldToo ++ allOf piecesToo) apart
     ∙ ap (λ (o : Outcome). o .text) (calls-strip q)

@@ -4,42 +4,29 @@
 use mathlib.Core.Path.{_≡_, refl, sym, ap, _∙_}
 use mathlib.Core.Bool.{Bool, true, false, cond, _&&_}
 use mathlib.Core.List.{List}
-use Prim.Native.Nat.{ℕ, _+_, _≤_, _<_}
-use native.Mathlib.Decide.{decLe}
+use Prim.Native.Nat.{ℕ, _+_, _<_}
 use native.Mathlib.Omega.{arith}
 use lib.Dec.{ltb, eqb}
 use lib.ListN.{length}
 use borrow.Author.Tests.{eq-eqb}
-use Rattle.records.specs.Rows.{Record, whole, more, bad, mostBytes, mostFields, lineEnd, recordAt}
-use Rattle.records.proofs.Whole.{more-short}
+use Rattle.records.specs.Rows.{mostBytes, mostFields, lineEnd}
 use Rattle.refusals.specs.Said.{refusedBy}
 use Rattle.refusals.specs.Sizes.{mostText}
 use Rattle.refusals.specs.declared.Fault.{Fault}
-use Rattle.exports.specs.Rows.{Taken, fitting, recordOf, taken}
-use Rattle.exports.proofs.Taking.{taken-whole, taken-bad}
+use Rattle.exports.specs.Rows.{Taken, taken}
+use Rattle.exports.proofs.Fronts.{AtFront, nothing-yet, bad-first, some-taken, at-front}
 use Rattle.stripping.specs.Stripping.{saidCut, madeOf, stripAnswer, StripSays}
 
--- A record that is not at its end is so whatever the number of columns.
-fitting-more : (columns : ℕ) (r : Record) → fitting columns r ≡ more → r ≡ more
-fitting-more columns (whole fs k) e = by (eqb (length fs) columns) e
-  where
-    by : (t : Bool) → cond t (whole fs k) bad ≡ more → whole fs k ≡ more
-    by true f = f
-    by false f = let z : _≡_ {A = ℕ} 0 1 = cc in absurd (omega arith)
-fitting-more columns more e = refl
-fitting-more columns bad e = let z : _≡_ {A = ℕ} 0 1 = cc in absurd (omega arith)
-
--- A text of which no record is taken, and which has no bad one at its front.
+-- A text of which no record is taken, and which has no bad one at its front, waits for more.
 none-short : (columns : ℕ) (l : List ℕ) → length (taken false columns l .rows) ≡ 0 → taken false columns l .faulty ≡ false → length l < mostBytes + lineEnd
-none-short columns l e f = by (decLe 1 (length l)) (recordOf false columns l) refl
+none-short columns l e f = by (at-front false columns l)
   where
-    by : Dec (1 ≤ length l) → (r : Record) → recordOf false columns l ≡ r → length l < mostBytes + lineEnd
-    by (no h) r q = omega arith
-    by (yes h) (whole fs k) q = absurd (omega (arith, e, ap (λ (t : Taken). length (t .rows)) (taken-whole false columns l h q)))
-    by (yes h) more q = more-short false columns l (fitting-more columns (recordAt false columns l) q)
-    by (yes h) bad q =
-        let b : true ≡ false = sym (ap (λ (t : Taken). t .faulty) (taken-bad false columns l h q)) ∙ f in
+    by : AtFront false columns l → length l < mostBytes + lineEnd
+    by (nothing-yet g h) = h
+    by (bad-first g) =
+        let b : true ≡ false = sym (ap (λ (t : Taken). t .faulty) g) ∙ f in
         let z : _≡_ {A = ℕ} 0 1 = cc in absurd (omega arith)
+    by (some-taken g h) = absurd (omega (arith, e))
 
 -- What an answer with no record says of what was taken.
 record NoneTaken (t : Taken) : Type 0 where

@@ -23,5 +23,8 @@ first-bad-answers-the-last x = let z : 16 ≤ 15 = x .found (omega arith) .befor
 pub first-bad-answers-the-count : Sought (LevelInRange (16 ∷ 17 ∷ [])) 2 2 → ⊥
 first-bad-answers-the-count x = let z : 16 ≤ 15 = x .nowhere (omega arith) .each 0 (omega arith) .most in omega arith
 
+pub first-bad-answers-past-the-count : Sought (LevelInRange (15 ∷ 15 ∷ 16 ∷ [])) 1 2 → ⊥
+first-bad-answers-past-the-count x = omega (arith, x .within)
+
 pub label-at-has-the-level-of-item-0 : classOf 1 0 ≡ labelsIn (1 ∷ 2 ∷ []) (0 ∷ 0 ∷ []) 1 → ⊥
 label-at-has-the-level-of-item-0 e = let z : _≡_ {A = ℕ} 1 2 = ap (λ (c : Class). c .level) e in omega arith

@@ -3,7 +3,8 @@ use Prim.Native.Nat.{_-_}
 use lib.ListN.{length}
 use borrow.Author.Needs.{needs}
 use Rattle.puts.proofs.Placed.{put-nowhere}
-use Rattle.puts.proofs.Puts.{Copied, copied-none, copied-more, copied-end}
+use Rattle.laws.proofs.Copying.{Copied, copied-none, copied-more}
+use Rattle.puts.proofs.Puts.{room-yes, bytes-copied}
 use Rattle.puts.proofs.put.Statement.{statement}
 use Rattle.puts.proofs.put.Tie as tie
 
@@ -23,7 +24,7 @@ returns : tie.Need-returns Inv-loop μ-loop
 returns c = search (put-nowhere, needs)
 
 loop-holds : tie.Need-loop-holds Inv-loop μ-loop
-loop-holds c = search (copied-none, needs)
+loop-holds c = search (copied-none, room-yes, needs)
 
 shared-slice-read-out : tie.Need-shared-slice-read-out Inv-loop μ-loop
 shared-slice-read-out c = search needs
@@ -50,7 +51,7 @@ same-length : tie.Need-same-length Inv-loop μ-loop
 same-length c = c .before .loop .inv .kept
 
 returns-2 : tie.Need-returns-2 Inv-loop μ-loop
-returns-2 c = search (copied-end, needs)
+returns-2 c = search (bytes-copied, needs)
 
 pub put-spec : {M : Type 1} → statement M
 put-spec =

@@ -5,6 +5,7 @@ use Prim.Native.Nat.{ℕ, _≤_, _<_}
 use Rattle.meaning.specs.Values.{Values, StrictlyBelow, numbers}
 use Rattle.meaning.specs.Rules.{Book}
 use Rattle.meaning.specs.Labelling.{Labelling, FirstDifference}
+use Rattle.meaning.specs.Parts.{Parts, inPart, partValues}
 
 -- The two agree on the items before i.
 abbrev pub AgreeBefore : {A : Type 0} → ℕ → (ℕ → A) → (ℕ → A) → Type 0
@@ -30,3 +31,9 @@ pub record NoneLess (top : ℕ) (b : Book ℕ) (f : ℕ → ℕ) (i v : ℕ) : T
 pub record WantedBelow (K : Values) (b : Book (K .Val)) (u f : ℕ → K .Val) : Type 0 where
   pub below : LabellingBelow K b u f
   pub least : (g : ℕ → K .Val) → LabellingBelow K b u g → (i : ℕ) → FirstDifference (b .items) f g i → StrictlyBelow K (f i) (g i)
+
+-- Part p is the lowest part in which no labelling below the bound u meets all rules.
+pub record RefusedBelow (P : Parts) (b : Book (P .values .Val)) (u : ℕ → P .values .Val) (p : ℕ) : Type 0 where
+  pub isPart : p < P .count
+  pub unmet : (f : ℕ → ℕ) → LabellingBelow (partValues P p) (inPart P p b) (λ i. P .part p (u i)) f → ⊥
+  pub lower : (q : ℕ) → q < p → (f : ℕ → ℕ) × LabellingBelow (partValues P q) (inPart P q b) (λ i. P .part q (u i)) f
