@@ -38,6 +38,8 @@ ROUTINES = {
     "put": lambda c, a, *_: texts.put(c.items, c.out, a),
     "put_count": lambda c, a, b, *_: texts.put_count(a, c.out, b),
     "put_class": lambda c, a, b, at, *_: texts.put_class(a, b, c.out, at),
+    "read_row": lambda c, a, b, most, *_: exports.read_row(c.text, a, b != 0, most, c.levels),
+    "nth_field": lambda c, a, b, *_: texts.put(exports.nth_field(c.text, a, c.levels, b), c.out, 0),
 }
 
 

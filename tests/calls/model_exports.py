@@ -49,6 +49,28 @@ def record(text, last, most_fields):
     return BAD
 
 
+def read_row(text, at, last, most, ends):
+    """The record at a place: its fields and bytes, more or bad; and where each field ends that is read, one with no comma behind it being the last."""
+    most = min(most, len(ends))
+    found = record(text[at:], last, most)
+    places, comma = [], True
+    while comma and len(places) < most:
+        start = places[-1] + 1 if places else at
+        which, values, _ = read_field(text, start)
+        places.append(start + sum(values))
+        comma = which == COMMA
+    if found in (MORE, BAD):
+        return success(which=1 if found == MORE else 2, levels=places)
+    return success(len(found[0]), found[1], levels=places)
+
+
+def nth_field(text, at, ends, c):
+    """The bytes of field c: from the record's place, or from behind the comma of the field before it, up to its end."""
+    known = dict(enumerate(ends))
+    start = known.get(c - 1, 0) + 1 if c else at
+    return text[start : known.get(c, 0)]
+
+
 def strip(text, last, kept, number, out):
     """1, 10 for over 256 columns, 16 at the first record's number, 11; the kept columns of the whole records up to a bad one."""
     demand(len(text) <= second.MOST_BYTES, TOO_LONG)

@@ -48,6 +48,8 @@ def contents(commands):
             held["items"] = list(item_bytes(rest.encode().split()))
         elif word == "labels":
             held["levels"], held["marks"] = (list(words) for words in zip(*map(class_words, rest.split())))
+        elif word == "ends":
+            held["levels"] = [number(word) for word in rest.split()]
         elif word == "kept":
             held["kept"] = [{"no": 0, "yes": 1}[keeps] for keeps in rest.split()]
         elif word in KINDS:

@@ -2,6 +2,7 @@
 
 import books
 import exports
+import model
 from random_tables import ODD, any_label, labels, room
 from random_texts import item_table, with_out
 from wire import CAPACITY, Call, item_bytes
@@ -25,6 +26,21 @@ def strip(rng):
     made = made.ljust(rng.choice([32768, 32769]), b"x") if rng.random() < 0.02 else made
     number = rng.choice(ODD) if rng.random() < 0.1 else rng.randint(1, 9)
     yield with_out(rng, "strip", rng.randint(0, 1), number, text=made, kept=[rng.randint(0, 1) for _ in range(columns)])
+
+
+def record_fields(rng):
+    """The record at the front of an export or behind a line end, its fields by the ends that reading it leaves, and one by other ends."""
+    made, columns = export(rng, rng.sample(books.NAMES, 4))
+    at = rng.choice([0, 0, rng.randint(0, len(made)), made.find(b"\n") + 1, rng.choice(ODD)])
+    ends = [rng.choice(ODD) for _ in range(rng.choice([columns, columns, columns + 2, 0, 1, 256, 300]))]
+    most = rng.choice([columns, columns, 256, rng.randint(0, 5), rng.choice(ODD)])
+    row = Call("read_row", at, rng.randint(0, 1), most, text=made, levels=ends)
+    yield row
+    left = model.answer(row).buffer("levels")
+    for c in range(min(columns, 3)):
+        yield with_out(rng, "nth_field", at, c, text=made, levels=left)
+    some = [rng.choice([rng.randint(0, len(made) + 2), rng.choice(ODD)]) for _ in range(rng.randint(0, 3))]
+    yield with_out(rng, "nth_field", rng.choice([at, 0]), rng.choice([0, 1, 2, 3, rng.choice(ODD)]), text=made, levels=some)
 
 
 def kept_columns(rng):

@@ -39,6 +39,8 @@ SUCCESSES = {
     "put": ["next"],
     "put_count": ["next"],
     "put_class": ["next"],
+    "read_row": ["whole", "more", "bad"],
+    "nth_field": ["next"],
 }
 NUMBER = {name: number for number, name in enumerate(SUCCESSES)}
 

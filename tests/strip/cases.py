@@ -3,6 +3,8 @@
 import os
 import re
 
+from program import FOLDER, PIPE, TERMINAL
+
 PATH = os.path.join(os.path.dirname(os.path.abspath(__file__)), "cases.txt")
 ESCAPES = {"r": b"\r", "n": b"\n", "t": b"\t", "\\": b"\\"}
 PIECE = re.compile(r"\\x([0-9a-f]{2})|\\(.)|\{(?:(\d+)\.\.)?(\d+)\*|(\})|([^\\{}]+)")
@@ -35,24 +37,49 @@ def taken(text, at, turn):
     return b"".join(made), at
 
 
+# What standard input is by the words of an `input` line.
+KINDS = {"folder": FOLDER, "fails": TERMINAL}
+
+
 class Case:
     def __init__(self, name, default):
-        self.name, self.words, self.folder = name, "BOOK CLASS", False
-        self.text = dict(default, export="", output="", error="")
+        self.name, self.words, self.input = name, "BOOK CLASS", []
+        self.text = dict(default, export="", output="", later="", error="")
 
     def take(self, key, value):
         if key == "words":
             self.words = value
-        elif key == "folder":
-            self.folder = True
+        elif key == "input":
+            self.input = value.split()
+            assert all(word.isdigit() or word in ("folder", "fails", "open", "waits") for word in self.input), value
         elif key in ("book", "class"):
             self.text[key] = value
         else:
-            assert key in ("export", "output", "error"), key
+            assert key in ("export", "output", "later", "error"), key
             self.text[key] += value
 
     def bytes(self, key):
         return bytes_of(self.text[key])
+
+    def kind(self):
+        """What standard input is."""
+        return next((KINDS[word] for word in self.input if word in KINDS), PIPE)
+
+    def pieces(self):
+        """The export as it arrives."""
+        export = self.bytes("export")
+        size = next((int(word) for word in self.input if word.isdigit()), len(export) or 1)
+        return [export[at : at + size] for at in range(0, len(export), size)]
+
+    def open_until(self):
+        """How many bytes stand on standard output before the input ends; None where it does not end before the program."""
+        if "open" in self.input:
+            return None
+        return len(self.bytes("output")) if "waits" in self.input else 0
+
+    def is_judged(self):
+        """Whether the answer is a matter of the book, the class and the export alone."""
+        return self.words == "BOOK CLASS" and "folder" not in self.input and self.text["error"] != "*"
 
 
 def key_and_value(line):

@@ -3,6 +3,7 @@
 use libc::STDOUT_FILENO;
 use routines::export_calls;
 use routines::label_calls;
+use routines::record_calls;
 use routines::table_calls;
 use routines::text_calls;
 use routines::token_calls;
@@ -32,7 +33,7 @@ const MOST_RULES: usize = 14000;
 const MOST_LABELS: usize = 300;
 
 // The number of routines.
-const ROUTINES: u64 = 28;
+const ROUTINES: u64 = 30;
 
 // The turns are counted down from a number that no run uses up, since a proved loop has to end.
 fn main() {
@@ -149,6 +150,7 @@ fn made(
         11..=16 => label_calls::call(routine, numbers, rules, levels, marks),
         17..=19 => export_calls::call(routine, numbers, text, items, out, levels, marks, kept),
         20..=24 => token_calls::reading(routine, numbers, text),
-        _ => token_calls::putting(routine, numbers, items, out),
+        25..=27 => token_calls::putting(routine, numbers, items, out),
+        _ => record_calls::call(routine, numbers, text, out, levels),
     }
 }

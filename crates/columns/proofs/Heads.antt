@@ -5,7 +5,7 @@ use mathlib.Core.Path.{_≡_, refl, sym, _∙_, subst}
 use mathlib.Core.Bool.{Bool, true, false}
 use mathlib.Core.List.{List, [], _∷_, _++_}
 use mathlib.Core.Logic.{inl, inr}
-use Prim.Native.Nat.{ℕ, _^_, _≤_, _<_}
+use Prim.Native.Nat.{ℕ, _≤_, _<_}
 use native.Mathlib.Omega.{arith}
 use lib.ListN.{length, take, drop}
 use types.Run.{OneOf}
@@ -16,7 +16,7 @@ use Rattle.records.specs.Rows.{whole, more, bad, recordAt, mostFields, RowSays}
 use Rattle.records.specs.Inner.{fieldsTo}
 use Rattle.records.specs.declared.Extent.{Extent}
 use Rattle.records.specs.declared.Size.{Size}
-use Rattle.records.proofs.Parts.{fields-count, row-length, WholeAt, row-whole, row-more, row-bad}
+use Rattle.records.proofs.Parts.{fields-count, WholeAt, row-whole, row-more, row-bad}
 use Rattle.columns.specs.Columns.{saidKept, saidColumns, headerAt, HeaderSays, bad-header, more-header, bad-names, no-room, keeps}
 use Rattle.columns.specs.Inner.{refusedFor, NumberRoom, HeaderReady, FindsItems, Headed, HeadSays, no-header, part-header, no-names, good-header}
 use Rattle.columns.specs.Inner.{Covering, KeepSays, roomless, covers}
@@ -66,13 +66,8 @@ module _ {l : List ℕ} {last : Bool} {ends₀ : List ℕ} {s : Size} {ends : Li
     header : headerAt last l ≡ whole (fieldsTo l 0 ends (x .fields)) (x .bytes)
     header = header-is l last some ∙ row .is
 
-    pub head-ready : {numbers₀ : List ℕ} → NumberRoom numbers₀ → length l < 2 ^ 63 → HeaderReady l ends (x .fields) numbers₀
-    head-ready h small = record {
-      slice = small;
-      spans = row .spans;
-      many = omega (arith, row .few, row-length p, room);
-      room = omega (arith, row .few, h .size);
-    }
+    pub head-ready : {numbers₀ : List ℕ} → NumberRoom numbers₀ → HeaderReady l ends (x .fields) numbers₀
+    head-ready h = record { spans = row .spans; room = omega (arith, row .few, h .size) }
 
     -- Each name is an item and none is repeated; or not.
     module _ {t : List ℕ} {n : ℕ} {numbers : List ℕ} {b : Bool} (found : FindsItems t n (fieldsTo l 0 ends (x .fields)) b numbers) where

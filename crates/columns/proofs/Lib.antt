@@ -1,5 +1,5 @@
 -- Why it is true, and what callers cite: names without their quotes, the loops, what each function answers, what an answer with columns says, that there is
--- only one answer and always one, that bytes behind a text do not change it, and that nothing past the count is looked at.
+-- only one answer and always one, that bytes behind a text do not change it, that a text that waits for more is short, and that nothing past the count is looked at.
 pub mod Quoted
 pub mod Looking
 pub mod Covered
@@ -10,3 +10,4 @@ pub mod Answered
 pub mod Unique
 pub mod Pieces
 pub mod Counted
+pub mod Waiting

@@ -5,13 +5,11 @@ use mathlib.Core.Path.{_≡_, refl, sym, ap, subst, _∙_}
 use mathlib.Core.Bool.{Bool, true, false}
 use mathlib.Core.List.{List, [], _∷_}
 use mathlib.Core.Logic.{inl, inr}
-use Prim.Native.Nat.{ℕ, _+_, _≤_, _<_}
+use Prim.Native.Nat.{ℕ, _+_, _-_, _≤_, _<_}
 use native.Mathlib.Decide.{decLe}
 use native.Mathlib.Omega.{arith}
-use lib.ListN.{length, getD, set, length-set}
+use lib.ListN.{length, getD, take, drop, set, length-set}
 use lib.Seq.{getD-set-same, getD-set-other}
-use mir.Syntax.{w64}
-use mir.Val.{Fits}
 use types.Run.{OneOf}
 use denote.Enum as enum
 use Rattle.laws.specs.Tells.{Tells}
@@ -21,11 +19,12 @@ use Rattle.items.specs.Lookup.{findIn}
 use Rattle.items.specs.declared.Found.{Found}
 use Rattle.items.proofs.Found as found
 use Rattle.items.proofs.Entries.{found-bytes}
-use Rattle.records.specs.Fields.{partOf}
-use Rattle.records.specs.Inner.{startAt, FieldSpan, fieldsTo}
-use Rattle.records.proofs.Parts.{span-within, fields-count, fields-at, start-more}
+use Rattle.records.specs.Fields.{fieldAt, fieldLen}
+use Rattle.records.specs.Rows.{startAt, nthField}
+use Rattle.records.specs.Inner.{FieldSpan, fieldsTo}
+use Rattle.records.proofs.Parts.{fields-count, fields-at}
 use Rattle.exports.specs.Names.{unquoted, nameIn, columnItem}
-use Rattle.columns.specs.Inner.{HoldsNumber, HeaderReady, FindsItems}
+use Rattle.columns.specs.Inner.{IsField, HoldsNumber, HeaderReady, FindsItems}
 
 -- The other variants are no At.
 not-found : (x : Found) → OneOf (1 ∷ 2 ∷ []) (enum.Declared.tagOf found.the-type x) → (i : ℕ) → x ≡ Found.At i → ⊥
@@ -39,27 +38,25 @@ not-found x h i e = other (subst (λ (y : Found). OneOf (1 ∷ 2 ∷ []) (enum.D
 found-same : (t : List ℕ) (n : ℕ) (x y : List ℕ) (i : ℕ) → findIn t n x ≡ Found.At i → findIn t n y ≡ Found.At i → x ≡ y
 found-same t n x y i e d = sym (found-bytes t n x i e) ∙ found-bytes t n y i d
 
--- c names are looked up, and the next one stands at a place.
-pub record Looking (t : List ℕ) (n : ℕ) (l ends : List ℕ) (fields : ℕ) (numbers₀ numbers : List ℕ) (at c : ℕ) : Type 0 where
+-- c names are looked up.
+pub record Looking (t : List ℕ) (n : ℕ) (l ends : List ℕ) (fields : ℕ) (numbers₀ numbers : List ℕ) (c : ℕ) : Type 0 where
   pub ready : HeaderReady l ends fields numbers₀
   pub sized : length numbers ≡ length numbers₀
-  pub start : at ≡ startAt 0 ends c
   pub items : (j : ℕ) → j < c → columnItem t n (fieldsTo l 0 ends fields) j ≡ Found.At (getD numbers j 0)
   pub apart : (i j : ℕ) → i < j → j < c → getD numbers i 0 ≡ getD numbers j 0 → ⊥
 
 -- No name is looked up.
 pub look-none : {t : List ℕ} {n : ℕ} {l ends : List ℕ} {fields : ℕ} {numbers : List ℕ} → HeaderReady l ends fields numbers
-    → Looking t n l ends fields numbers numbers 0 0
+    → Looking t n l ends fields numbers numbers 0
 look-none r = record {
   ready = r;
   sized = refl;
-  start = refl;
   items = λ j h. absurd (omega arith);
   apart = λ i j h g. absurd (omega arith);
 }
 
-module _ {t : List ℕ} {n : ℕ} {l ends : List ℕ} {fields : ℕ} {numbers₀ numbers : List ℕ} {at c : ℕ}
-    (w : Looking t n l ends fields numbers₀ numbers at c) where
+module _ {t : List ℕ} {n : ℕ} {l ends : List ℕ} {fields : ℕ} {numbers₀ numbers : List ℕ} {c : ℕ}
+    (w : Looking t n l ends fields numbers₀ numbers c) where
   abbrev fs : List (List ℕ)
   fs = fieldsTo l 0 ends fields
 
@@ -86,29 +83,28 @@ module _ {t : List ℕ} {n : ℕ} {l ends : List ℕ} {fields : ℕ} {numbers₀
           (same-item (getD numbers i 0) (getD numbers j 0) (sym (item i (omega arith)) ∙ ap (findIn t n) e ∙ item j k))
 
   module _ (h : c < fields) where
-    -- The end of the next field is known, and there is room for its item.
-    pub look-end : c < length ends
-    look-end = omega (arith, w .ready .many)
-
+    -- There is room for the item of the next field.
     pub look-room : c < length numbers
     look-room = omega (arith, w .sized, w .ready .room)
 
     pub look-held : c ≤ length numbers
     look-held = omega (arith, look-room)
 
-    -- The next field stands here, and the place behind it fits a word.
-    pub look-span : FieldSpan l at (getD ends c 0)
-    look-span = rw (w .start) (w .ready .spans .each c h)
+    span : FieldSpan l (startAt 0 ends c) (getD ends c 0)
+    span = w .ready .spans .each c h
 
-    pub look-fits : Fits w64 (getD ends c 0 + 1)
-    look-fits = record { fits = omega (arith, span-within look-span, w .ready .slice) }
+    pub look-field : {x : List ℕ} → x ≡ nthField l 0 ends c → IsField x
+    look-field e = record {
+      text = drop (startAt 0 ends c) l;
+      is =
+          e
+          ∙ ap (λ (k : ℕ). take k (drop (startAt 0 ends c) l))
+          (let k : getD ends c 0 - startAt 0 ends c ≡ fieldLen (fieldAt (drop (startAt 0 ends c) l)) = omega (arith, span .end) in k);
+    }
 
-    module _ {x : Found} (g : x ≡ findIn t n (unquoted (partOf l at (getD ends c 0)))) where
+    module _ {name : List ℕ} (is : name ≡ nthField l 0 ends c) {x : Found} (g : x ≡ findIn t n (unquoted name)) where
       column : columnItem t n (fieldsTo l 0 ends fields) c ≡ x
-      column =
-          ap (λ (y : List ℕ). findIn t n (unquoted y))
-          (fields-at l 0 ends fields c h ∙ ap (λ (k : ℕ). partOf l k (getD ends c 0)) (sym (w .start)))
-          ∙ sym g
+      column = ap (λ (y : List ℕ). findIn t n (unquoted y)) (fields-at l 0 ends fields c h ∙ sym is) ∙ sym g
 
       -- A name that is no item.
       pub look-absent : OneOf (1 ∷ 2 ∷ []) (enum.Declared.tagOf found.the-type x) → FindsItems t n (fieldsTo l 0 ends fields) false numbers
@@ -133,11 +129,10 @@ module _ {t : List ℕ} {n : ℕ} {l ends : List ℕ} {fields : ℕ} {numbers₀
             s = told .holds e
 
         -- A new name.
-        pub look-more : b ≡ false → Looking t n l ends fields numbers₀ (set numbers c i) (getD ends c 0 + 1) (c + 1)
+        pub look-more : b ≡ false → Looking t n l ends fields numbers₀ (set numbers c i) (c + 1)
         look-more e = record {
           ready = w .ready;
           sized = length-set numbers c i ∙ w .sized;
-          start = sym (start-more 0 ends c);
           items = λ j k. item j k (decLe c j);
           apart = λ p j k m. apart p j k m (decLe c j);
         }

@@ -4,13 +4,12 @@
 use mathlib.Core.Path.{_≡_, refl, sym, ap, subst, _∙_}
 use mathlib.Core.Bool.{Bool, true, false, cond, _&&_}
 use mathlib.Core.List.{List, [], _∷_}
-use Prim.Native.Nat.{ℕ, zero, suc, _+_, _-_, _^_, _≤_, _<_}
+use Prim.Native.Nat.{ℕ, zero, suc, _+_, _-_, _≤_, _<_}
 use native.Mathlib.Decide.{ℕ-discrete}
 use native.Mathlib.Omega.{arith}
-use mir.Syntax.{w64}
-use mir.Val.{Fits}
 use lib.Dec.{eqb, leb}
 use lib.ListN.{length, getD, take, drop}
+use lib.Seq.{take-take, length-take-le}
 use borrow.Author.Tests.{ne-eqb}
 use Rattle.laws.specs.Tells.{Tells}
 use Rattle.laws.proofs.Tells.{tells-no, tells-eqb}
@@ -19,15 +18,13 @@ use Rattle.scans.specs.Bytes.{nameByte}
 use Rattle.items.specs.Lookup.{saidFound, findIn, FindSays}
 use Rattle.items.specs.declared.Found.{Found}
 use Rattle.items.proofs.Lookup.{find-told}
-use Rattle.records.specs.Inner.{FieldSpan}
-use Rattle.records.specs.Fields.{partOf, fieldLen, longerBy, afterCr, behind, Where, start, plain, quoted, closed, scan, fieldAt}
+use Rattle.records.specs.Fields.{fieldLen, longerBy, afterCr, behind, Where, start, plain, quoted, closed, scan, fieldAt}
 use Rattle.scans.specs.Ascii.{comma, quote, cr, lf}
 use Rattle.records.specs.declared.Field.{Field}
 use Rattle.records.proofs.Steps.{start-quote}
-use Rattle.records.proofs.Parts.{span-order, span-within}
-use Rattle.scans.proofs.Places.{drop-step}
+use Rattle.records.proofs.Within.{len-within}
 use Rattle.exports.specs.Names.{undoubled, unquoted}
-use Rattle.columns.specs.Inner.{Quoted}
+use Rattle.columns.specs.Inner.{IsField, Quoted}
 
 -- Two texts that are looked up alike: they are equal, or neither is a name.
 data Alike (x y : List ℕ) : Type 0 where
@@ -187,64 +184,80 @@ inside-named t n l (Field.End k) g = between-named t n l k g
 inside-named t n l Field.Open g = none-named t n l
 inside-named t n l Field.Bad g = none-named t n l
 
--- A field from one place to another.
-module _ {l : List ℕ} {from to : ℕ} (h : FieldSpan l from to) where
-  size : to - from ≡ fieldLen (fieldAt (drop from l))
-  size = omega (arith, h .end)
+-- The first byte of a text, and those behind it.
+front : (l : List ℕ) (k : ℕ) → 1 ≤ k → k ≤ length l → take k l ≡ getD l 0 0 ∷ take (k - 1) (drop 1 l)
+front [] k h g = absurd (omega arith)
+front (b ∷ l) zero h g = absurd (omega arith)
+front (b ∷ l) (suc k) h g = let e : suc k - 1 ≡ k = omega arith in rw e
 
-  named : (t : List ℕ) (n : ℕ) → 1 ≤ to - from → getD l from 0 ≡ quote → Named t n (drop (from + 1) l) (to - from)
+-- The bytes of a field.
+module _ {x : List ℕ} (h : IsField x) where
+  long : length x ≡ fieldLen (fieldAt (h .text))
+  long = ap length (h .is) ∙ length-take-le (fieldLen (fieldAt (h .text))) (h .text) (len-within (h .text))
+
+  opening : 1 ≤ length x → x ≡ getD (h .text) 0 0 ∷ take (length x - 1) (drop 1 (h .text))
+  opening some =
+      h .is
+      ∙ ap (λ (k : ℕ). take k (h .text)) (sym long)
+      ∙ front (h .text) (length x) some (omega (arith, long, len-within (h .text)))
+
+  first : 1 ≤ length x → getD (h .text) 0 0 ≡ getD x 0 0
+  first some = sym (ap (λ (y : List ℕ). getD y 0 0) (opening some))
+
+  named : (t : List ℕ) (n : ℕ) → 1 ≤ length x → getD x 0 0 ≡ quote → Named t n (drop 1 (h .text)) (length x)
   named t n some e =
-      rw (size, start-quote l from (omega (arith, span-within h)) e)
-      (inside-named t n (drop (from + 1) l) (scan quoted (drop (from + 1) l)) (scan-stands quoted (drop (from + 1) l)))
+      rw (long, start-quote (h .text) 0 (omega (arith, some, long, len-within (h .text))) (first some ∙ e))
+      (inside-named t n (drop 1 (h .text)) (scan quoted (drop 1 (h .text))) (scan-stands quoted (drop 1 (h .text))))
 
   -- A field with a quote at its start is looked up without its quotes.
-  quoted-found : (t : List ℕ) (n : ℕ) → Quoted l from to → findIn t n (partOf l (from + 1) (to - 1)) ≡ findIn t n (unquoted (partOf l from to))
-  quoted-found t n q = rw (inner, step) (named t n (omega (arith, q .both)) (q .opens) .alike (omega (arith, q .both)))
+  quoted-found : (t : List ℕ) (n : ℕ) → Quoted x → findIn t n (take (length x - 1 - 1) (drop 1 x)) ≡ findIn t n (unquoted x)
+  quoted-found t n q =
+      ap (findIn t n) inner
+      ∙ named t n some (q .opens) .alike (q .both)
+      ∙ ap (λ (b : ℕ). findIn t n (unquoted (b ∷ take (length x - 1) (drop 1 (h .text))))) (sym (first some ∙ q .opens))
+      ∙ ap (λ (y : List ℕ). findIn t n (unquoted y)) (sym (opening some))
     where
-      inner : to - 1 - (from + 1) ≡ to - from - 2
-      inner = omega arith
+      some : 1 ≤ length x
+      some = omega (arith, q .both)
 
-      step : take (to - from) (drop from l) ≡ quote ∷ take (to - from - 1) (drop (from + 1) l)
-      step = rw (drop-step l from (omega (arith, span-within h, q .both)), q .opens) (cut (to - from) (omega (arith, q .both)))
-        where
-          cut : (k : ℕ) → 2 ≤ k → take k (quote ∷ drop (from + 1) l) ≡ quote ∷ take (k - 1) (drop (from + 1) l)
-          cut zero g = absurd (omega arith)
-          cut (suc k) g = let e : suc k - 1 ≡ k = omega arith in rw e
+      inner : take (length x - 1 - 1) (drop 1 x) ≡ take (length x - 2) (drop 1 (h .text))
+      inner =
+          ap (λ (y : List ℕ). take (length x - 1 - 1) (drop 1 y)) (opening some)
+          ∙ take-take (length x - 1 - 1) (length x - 1) (drop 1 (h .text)) (omega arith)
+          ∙ ap (λ (k : ℕ). take k (drop 1 (h .text))) (let k : length x - 1 - 1 ≡ length x - 2 = omega arith in k)
 
   -- Another field is looked up as it is.
-  plain-found : (t : List ℕ) (n : ℕ) → (Quoted l from to → ⊥) → findIn t n (partOf l from to) ≡ findIn t n (unquoted (partOf l from to))
+  plain-found : (t : List ℕ) (n : ℕ) → (Quoted x → ⊥) → findIn t n x ≡ findIn t n (unquoted x)
   unfolding unquoted
-  plain-found t n q = by (to - from) refl
+  plain-found t n q = by x refl
     where
-      open-not : 1 ≤ to - from → getD l from 0 ≡ quote → ⊥
-      open-not some e = q (record { both = omega (arith, named t n some e .two some); opens = e })
+      by : (y : List ℕ) → x ≡ y → findIn t n y ≡ findIn t n (unquoted y)
+      by [] e = refl
+      by (b ∷ y) e =
+          rw (ne-eqb b quote (λ d.
+          q (record {
+            both = named t n (omega (arith, ap length e)) (ap (λ (z : List ℕ). getD z 0 0) e ∙ d) .two (omega (arith, ap length e));
+            opens = ap (λ (z : List ℕ). getD z 0 0) e ∙ d;
+          })))
 
-      by : (k : ℕ) → to - from ≡ k → findIn t n (take k (drop from l)) ≡ findIn t n (unquoted (take k (drop from l)))
-      by zero e = refl
-      by (suc k) e =
-          rw (drop-step l from (omega (arith, span-within h, span-order h)), ne-eqb (getD l from 0) quote (open-not (omega arith)))
+-- What the test of its quotes tells: too few bytes, or by the first one.
+pub quotes-none : {x : List ℕ} → length x < 2 → Tells (Quoted x) false
+quotes-none g = tells-no (λ q. omega (arith, q .both))
 
-  -- What the test of its quotes tells: too few bytes, or by the first one.
-  pub quotes-none : to - from < 2 → Tells (Quoted l from to) false
-  quotes-none g = tells-no (λ q. omega (arith, q .both))
+pub quotes-by : {x : List ℕ} → 2 ≤ length x → Tells (Quoted x) (eqb (getD x 0 0) quote)
+quotes-by {x} g = tells-eqb (getD x 0 0) quote (λ e. record { both = omega arith; opens = e }) (λ q. q .opens)
 
-  pub quote-inside : 2 ≤ to - from → from < length l
-  quote-inside g = omega (arith, span-within h)
+-- What looking up a field's name answers, by that test.
+module _ {x : List ℕ} {b : Bool} (told : Tells (Quoted x) b) where
+  pub before-quote : b ≡ true → 1 ≤ length x
+  before-quote e = omega (arith, told .holds e .both)
 
-  pub quotes-by : 2 ≤ to - from → Tells (Quoted l from to) (eqb (getD l from 0) quote)
-  quotes-by g = tells-eqb (getD l from 0) quote (λ e. record { both = omega arith; opens = e }) (λ q. q .opens)
+  pub between-quotes : b ≡ true → 1 ≤ length x - 1
+  between-quotes e = omega (arith, told .holds e .both)
 
-  -- What looking up its name answers, by that test.
-  module _ {b : Bool} (told : Tells (Quoted l from to) b) where
-    pub behind-quote : b ≡ true → length l < 2 ^ 63 → Fits w64 (from + 1)
-    behind-quote e g = record { fits = omega (arith, told .holds e .both, span-within h) }
+  module _ (h : IsField x) {t : List ℕ} {n : ℕ} {r : Found} where
+    pub item-quoted : {y : List ℕ} → b ≡ true → y ≡ take (length x - 1 - 1) (drop 1 x) → FindSays t n y (saidFound r) → r ≡ findIn t n (unquoted x)
+    item-quoted e f g = find-told g ∙ ap (findIn t n) f ∙ quoted-found h t n (told .holds e)
 
-    pub before-quote : b ≡ true → 1 ≤ to
-    before-quote e = omega (arith, told .holds e .both)
-
-    module _ {t : List ℕ} {n : ℕ} {x : List ℕ} {r : Found} where
-      pub item-quoted : b ≡ true → x ≡ partOf l (from + 1) (to - 1) → FindSays t n x (saidFound r) → r ≡ findIn t n (unquoted (partOf l from to))
-      item-quoted e f g = find-told g ∙ ap (findIn t n) f ∙ quoted-found t n (told .holds e)
-
-      pub item-plain : b ≡ false → x ≡ partOf l from to → FindSays t n x (saidFound r) → r ≡ findIn t n (unquoted (partOf l from to))
-      item-plain e f g = find-told g ∙ ap (findIn t n) f ∙ plain-found t n (told .fails e)
+    pub item-plain : b ≡ false → FindSays t n x (saidFound r) → r ≡ findIn t n (unquoted x)
+    item-plain e g = find-told g ∙ plain-found h t n (told .fails e)

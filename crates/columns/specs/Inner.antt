@@ -3,14 +3,15 @@
 use mathlib.Core.Path.{_≡_}
 use mathlib.Core.Bool.{Bool, true, false}
 use mathlib.Core.List.{List}
-use Prim.Native.Nat.{ℕ, _+_, _^_, _≤_, _<_}
-use lib.ListN.{length, getD, drop}
+use Prim.Native.Nat.{ℕ, _≤_, _<_}
+use lib.ListN.{length, getD, take, drop}
 use Rattle.laws.specs.Tells.{Tells}
 use Rattle.classes.specs.Class.{Covers}
 use Rattle.classes.specs.declared.Class.{Class}
 use Rattle.items.specs.declared.Found.{Found}
 use Rattle.refusals.specs.declared.Fault.{Fault}
 use Rattle.scans.specs.Ascii.{quote}
+use Rattle.records.specs.Fields.{fieldAt, fieldLen}
 use Rattle.records.specs.Rows.{whole, more, bad, mostFields}
 use Rattle.records.specs.Inner.{FieldSpans}
 use Rattle.exports.specs.Names.{columnItem, HeaderOk}
@@ -21,10 +22,15 @@ use Rattle.columns.specs.declared.Columns.{Columns}
 abbrev pub refusedFor : Fault → ℕ → Columns
 refusedFor f p = Columns.Refused (record { fault = f; place = p })
 
+-- The bytes are those of the field at the front of some text.
+pub record IsField (x : List ℕ) : Type 0 where
+  pub text : List ℕ
+  pub is : x ≡ take (fieldLen (fieldAt text)) text
+
 -- A field has quotes around it.
-pub record Quoted (l : List ℕ) (from to : ℕ) : Type 0 where
-  pub both : from + 2 ≤ to
-  pub opens : getD l from 0 ≡ quote
+pub record Quoted (x : List ℕ) : Type 0 where
+  pub both : 2 ≤ length x
+  pub opens : getD x 0 0 ≡ quote
 
 -- A number is one of the first c.
 pub record HoldsNumber (numbers : List ℕ) (c number : ℕ) : Type 0 where
@@ -36,11 +42,9 @@ pub record HoldsNumber (numbers : List ℕ) (c number : ℕ) : Type 0 where
 pub record NumberRoom (numbers : List ℕ) : Type 0 where
   pub size : length numbers ≡ mostFields
 
--- The header's fields end at these places, and there is room for the item of each column. The export is a slice, which has fewer than 2^63 bytes.
+-- The header's fields end at these places, and there is room for the item of each column.
 pub record HeaderReady (export ends : List ℕ) (fields : ℕ) (numbers : List ℕ) : Type 0 where
-  pub slice : length export < 2 ^ 63
   pub spans : FieldSpans export 0 ends fields
-  pub many : fields ≤ length ends
   pub room : fields ≤ length numbers
 
 -- The item of each column.

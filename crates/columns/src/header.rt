@@ -6,7 +6,7 @@ use items::find;
 use labels::label_at;
 use records::MOST_FIELDS;
 use records::Size;
-use records::part;
+use records::nth_field;
 use records::read_row;
 use refusals::Fault;
 use refusals::Refusal;
@@ -17,11 +17,10 @@ ghost use lib.ListN.{length};
 ghost use Rattle.laws.specs.Tells.{Tells};
 ghost use Rattle.items.specs.Lookup.{findIn};
 ghost use Rattle.labels.specs.Labels.{labelsIn};
-ghost use Rattle.records.specs.Fields.{partOf};
-ghost use Rattle.records.specs.Inner.{FieldSpan, fieldsTo};
+ghost use Rattle.records.specs.Inner.{fieldsTo};
 ghost use Rattle.exports.specs.Names.{unquoted};
 ghost use Rattle.columns.specs.Columns.{saidColumns, HeaderSays};
-ghost use Rattle.columns.specs.Inner.{refusedFor, Quoted, HoldsNumber, NumberRoom, HeaderReady, FindsItems, HeadSays, CoverReady, Covering, KeepSays};
+ghost use Rattle.columns.specs.Inner.{refusedFor, IsField, Quoted, HoldsNumber, NumberRoom, HeaderReady, FindsItems, HeadSays, CoverReady, Covering, KeepSays};
 
 // A refusal.
 pub(crate) fn refused(fault: Fault, place: u64) -> Columns
@@ -86,43 +85,40 @@ fn find_items(
     requires { ⌜ HeaderReady (now export) (now ends) fields (now numbers) ⌝ }
     ensures { λ r. ⌜ FindsItems (now (items .entry)) n (fieldsTo (now (export .entry)) 0 (now (ends .entry)) fields) r (now (numbers .exit)) ⌝ }
 {
-    let mut at = 0;
     let mut c = 0;
     while c < fields {
-        let end = ends[c];
-        let Found::At(i) = item_at(items, n, export, at, end) else {
+        let Found::At(i) = item_named(items, n, nth_field(export, 0, ends, c)) else {
             return false;
         };
         if holds(numbers, c, i as u64) {
             return false;
         }
         numbers[c] = i as u64;
-        at = end + 1;
         c += 1;
     }
     true
 }
 
 // The item that a field names, its outer quotes off. A doubled quote stays as it is: no name has a quote, single or doubled.
-fn item_at(items: &[u8], n: usize, text: &[u8], from: usize, to: usize) -> Found
-    requires { ⌜ FieldSpan (now text) from to ⌝ }
-    ensures { λ r. ⌜ r ≡ findIn (now (items .entry)) n (unquoted (partOf (now (text .entry)) from to)) ⌝ }
+fn item_named(items: &[u8], n: usize, field: &[u8]) -> Found
+    requires { ⌜ IsField (now field) ⌝ }
+    ensures { λ r. ⌜ r ≡ findIn (now (items .entry)) n (unquoted (now (field .entry))) ⌝ }
 {
-    if is_quoted(text, from, to) {
-        return find(items, n, part(text, from + 1, to - 1));
+    if is_quoted(field) {
+        let end = field.len() - 1;
+        return find(items, n, &field[1..end]);
     }
-    find(items, n, part(text, from, to))
+    find(items, n, field)
 }
 
 // Whether a field has quotes around it.
-fn is_quoted(text: &[u8], from: usize, to: usize) -> bool
-    requires { ⌜ FieldSpan (now text) from to ⌝ }
-    ensures { λ r. ⌜ Tells (Quoted (now (text .entry)) from to) r ⌝ }
+fn is_quoted(field: &[u8]) -> bool
+    ensures { λ r. ⌜ Tells (Quoted (now (field .entry))) r ⌝ }
 {
-    if to - from < 2 {
+    if field.len() < 2 {
         return false;
     }
-    text[from] == QUOTE
+    field[0] == QUOTE
 }
 
 // Whether a number is one of the first c.

@@ -1,5 +1,5 @@
 -- Why it is true, and what callers cite: the steps of the machine, the places that the loops have come to, where a field lies, the sizes of
--- records, a record read field by field, what a whole record says, its fields by where they end, and bytes that come behind a text.
+-- records, a record read field by field, what a whole record says, its fields by where they end, each of them by itself, and bytes that come behind a text.
 pub mod Steps
 pub mod Past
 pub mod Within
@@ -8,4 +8,5 @@ pub mod Come
 pub mod Reading
 pub mod Whole
 pub mod Parts
+pub mod NthField
 pub mod Prefix

@@ -9,43 +9,21 @@ use native.Mathlib.Decide.{decLe}
 use native.Mathlib.Nat.{zero-add}
 use native.Mathlib.Numerals.{add-one}
 use native.Mathlib.Omega.{arith}
-use lib.ListN.{length, getD, take, drop, length-append, length-drop, drop-of-length-le, List·getD-append}
-use lib.Seq.{drop-drop, take-all, take-nil, getD-at, ext-getD}
+use lib.ListN.{length, getD, take, drop, length-append, length-drop, List·getD-append}
+use lib.Seq.{drop-drop, getD-at, ext-getD}
 use Rattle.laws.specs.Over.{over}
 use Rattle.laws.proofs.Buffers.{over-inside}
 use Rattle.laws.proofs.Over.{over-length}
-use Rattle.records.specs.Fields.{partOf, fieldAt, fieldLen}
+use Rattle.records.specs.Fields.{fieldAt, fieldLen}
 use Rattle.records.specs.Rows.{Row, line, bare, cut, broken, fieldBefore, rowFrom, rowOf}
 use Rattle.records.specs.Rows.{Record, whole, more, bad, fewBytes, mayGoOn, judged, recordAt, sizeOf, endsBehind, endsOf, RowSays}
-use Rattle.records.specs.Inner.{startAt, FieldSpan, FieldSpans, fieldsTo}
+use Rattle.records.specs.Rows.{partOf, startAt, nthField}
+use Rattle.records.specs.Inner.{FieldSpan, FieldSpans, fieldsTo}
 use Rattle.records.specs.declared.Extent.{Extent}
 use Rattle.records.specs.declared.Field.{Field}
 use Rattle.records.specs.declared.Size.{Size}
 use Rattle.records.proofs.Within.{comma-within, len-within}
 use Rattle.records.proofs.Whole.{RowLies, row-lies, whole-here}
-
--- The part of a text between two places that were cut to its length.
-pub part-cut : (l : List ℕ) (from to : ℕ) {start end : ℕ} → end ≡ min to (length l) → start ≡ min from end
-    → take (end - start) (drop start l) ≡ partOf l from to
-part-cut l from to {start} {end} e f = by (decLe from end) (decLe to (length l))
-  where
-    none : (a b : List ℕ) → (k : ℕ) → k ≡ 0 → b ≡ [] → take k a ≡ b
-    none a b k z y = rw (z, y)
-
-    by : Dec (from ≤ end) → Dec (to ≤ length l) → take (end - start) (drop start l) ≡ partOf l from to
-    by (yes h) (yes g) =
-        let s : start ≡ from = omega arith in
-        let t : end ≡ to = omega arith in
-        rw (s, t)
-    by (yes h) (no g) =
-        let s : start ≡ from = omega arith in
-        rw s (take-all (end - from) (drop from l) (omega (arith, length-drop from l)) ∙ sym (take-all (to - from) (drop from l) (omega (arith, length-drop from l))))
-    by (no h) (yes g) =
-        let k : to - from ≡ 0 = omega arith in
-        none (drop start l) (partOf l from to) (end - start) (omega arith) (rw k)
-    by (no h) (no g) =
-        let past : length l ≤ from = omega arith in
-        none (drop start l) (partOf l from to) (end - start) (omega arith) (rw (drop-of-length-le l past) (take-nil (to - from)))
 
 -- A field lies within the text.
 module _ {l : List ℕ} {from to : ℕ} (p : FieldSpan l from to) where
@@ -61,7 +39,7 @@ unfolding fieldsTo
 fields-none l at ends = refl
 
 pub fields-more : (l : List ℕ) (at : ℕ) (ends : List ℕ) (c : ℕ)
-    → fieldsTo l at ends (c + 1) ≡ fieldsTo l at ends c ++ partOf l (startAt at ends c) (getD ends c 0) ∷ []
+    → fieldsTo l at ends (c + 1) ≡ fieldsTo l at ends c ++ nthField l at ends c ∷ []
 unfolding fieldsTo
 fields-more l at ends c = ap (fieldsTo l at ends) (add-one c)
 
@@ -72,18 +50,18 @@ fields-count l at ends (suc c) =
     length-append (fieldsTo l at ends c) _ ∙ ap (λ (k : ℕ). k + 1) (fields-count l at ends c) ∙ add-one c
 
 pub fields-at : (l : List ℕ) (at : ℕ) (ends : List ℕ) (n c : ℕ) → c < n
-    → getD (fieldsTo l at ends n) c [] ≡ partOf l (startAt at ends c) (getD ends c 0)
+    → getD (fieldsTo l at ends n) c [] ≡ nthField l at ends c
 unfolding fieldsTo
 fields-at l at ends zero c h = absurd (omega arith)
 fields-at l at ends (suc n) c h = by (decLe n c) (fields-at l at ends n c)
   where
-    by : Dec (n ≤ c) → (c < n → getD (fieldsTo l at ends n) c [] ≡ partOf l (startAt at ends c) (getD ends c 0))
-        → getD (fieldsTo l at ends n ++ partOf l (startAt at ends n) (getD ends n 0) ∷ []) c [] ≡ partOf l (startAt at ends c) (getD ends c 0)
+    by : Dec (n ≤ c) → (c < n → getD (fieldsTo l at ends n) c [] ≡ nthField l at ends c)
+        → getD (fieldsTo l at ends n ++ nthField l at ends n ∷ []) c [] ≡ nthField l at ends c
     by (yes g) ih =
         let e : c ≡ n = omega arith in
-        rw e (getD-at (fieldsTo l at ends n) (partOf l (startAt at ends n) (getD ends n 0)) [] [] n (fields-count l at ends n))
+        rw e (getD-at (fieldsTo l at ends n) (nthField l at ends n) [] [] n (fields-count l at ends n))
     by (no g) ih =
-        List·getD-append (fieldsTo l at ends n) (partOf l (startAt at ends n) (getD ends n 0) ∷ []) [] c (omega (arith, fields-count l at ends n))
+        List·getD-append (fieldsTo l at ends n) (nthField l at ends n ∷ []) [] c (omega (arith, fields-count l at ends n))
         ∙ ih (omega arith)
 
 -- The start of the field behind field c.
@@ -93,7 +71,7 @@ start-more at ends c = ap (startAt at ends) (add-one c)
 -- These are the fields of a record by where they end.
 record FieldsBy (l : List ℕ) (at : ℕ) (ends : List ℕ) (fs : List (List ℕ)) : Type 0 where
   spans : FieldSpans l at ends (length fs)
-  bytes : (c : ℕ) → c < length fs → getD fs c [] ≡ partOf l (startAt at ends c) (getD ends c 0)
+  bytes : (c : ℕ) → c < length fs → getD fs c [] ≡ nthField l at ends c
 
 by-fields : {l : List ℕ} {at : ℕ} {ends : List ℕ} (fs : List (List ℕ)) → FieldsBy l at ends fs → fs ≡ fieldsTo l at ends (length fs)
 by-fields {l} {at} {ends} fs p =

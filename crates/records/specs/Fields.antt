@@ -3,15 +3,10 @@
 -- Assumes nothing.
 use mathlib.Core.Bool.{Bool, cond, not, _||_}
 use mathlib.Core.List.{List, [], _∷_}
-use Prim.Native.Nat.{ℕ, _+_, _-_}
+use Prim.Native.Nat.{ℕ, _+_}
 use lib.Dec.{eqb}
-use lib.ListN.{take, drop}
 use Rattle.scans.specs.Ascii.{comma, quote, cr, lf}
 use Rattle.records.specs.declared.Field.{Field}
-
--- The bytes from one place of a text up to another.
-abbrev pub partOf : List ℕ → ℕ → ℕ → List ℕ
-partOf l from to = take (to - from) (drop from l)
 
 -- "Bytes outside ASCII and controls are allowed in a field": a field without quotes holds any bytes but comma, quote, CR and LF.
 unfoldable pub plainByte : ℕ → Bool

@@ -5,9 +5,9 @@ use mathlib.Core.Bool.{Bool, cond}
 use mathlib.Core.List.{List, [], _∷_, _++_}
 use Prim.Native.Nat.{ℕ, zero, suc, _+_, _≤_, _<_}
 use lib.ListN.{length, getD, drop}
-use Rattle.records.specs.Fields.{partOf, plain, quoted, scan, behind, longerBy, fieldAt, fieldLen}
+use Rattle.records.specs.Fields.{plain, quoted, scan, behind, longerBy, fieldAt, fieldLen}
 use Rattle.scans.specs.Ascii.{quote}
-use Rattle.records.specs.Rows.{lineEnd, fewBytes, mayGoOn}
+use Rattle.records.specs.Rows.{lineEnd, fewBytes, mayGoOn, startAt, nthField}
 use Rattle.records.specs.declared.Field.{Field}
 use Rattle.records.specs.declared.Size.{Size}
 
@@ -43,11 +43,6 @@ endedBy last n c k Field.Open = cond last Size.Bad (unfinishedSize n)
 endedBy last n c k (Field.Comma m) = Size.Bad
 endedBy last n c k Field.Bad = Size.Bad
 
--- Where field c starts of a record at a place, whose fields end at these places: behind the comma of the field before it.
-abbrev pub startAt : ℕ → List ℕ → ℕ → ℕ
-startAt at ends zero = at
-startAt at ends (suc c) = getD ends c 0 + 1
-
 -- The field at one place of l ends at another place.
 pub record FieldSpan (l : List ℕ) (from to : ℕ) : Type 0 where
   pub start : from ≤ length l
@@ -60,4 +55,4 @@ pub record FieldSpans (l : List ℕ) (at : ℕ) (ends : List ℕ) (n : ℕ) : Ty
 -- These fields.
 unfoldable pub fieldsTo : List ℕ → ℕ → List ℕ → ℕ → List (List ℕ)
 fieldsTo l at ends zero = []
-fieldsTo l at ends (suc c) = fieldsTo l at ends c ++ partOf l (startAt at ends c) (getD ends c 0) ∷ []
+fieldsTo l at ends (suc c) = fieldsTo l at ends c ++ nthField l at ends c ∷ []

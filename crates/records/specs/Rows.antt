@@ -1,11 +1,11 @@
--- The record at the front of a text: its fields, and whether it is whole, unfinished or none; and where its fields end.
+-- The record at the front of a text: its fields, and whether it is whole, unfinished or none; where its fields end, and each field by these ends.
 -- Assumes nothing.
 use mathlib.Core.Path.{_≡_}
 use mathlib.Core.Bool.{Bool, cond}
 use mathlib.Core.List.{List, [], _∷_}
-use Prim.Native.Nat.{ℕ, zero, suc, _+_, min}
+use Prim.Native.Nat.{ℕ, zero, suc, _+_, _-_, min}
 use lib.Dec.{ltb, leb}
-use lib.ListN.{length, take, drop}
+use lib.ListN.{length, getD, take, drop}
 use Rattle.laws.specs.Over.{over}
 use Rattle.records.specs.Fields.{fieldAt, fieldLen}
 use Rattle.records.specs.declared.Field.{Field}
@@ -110,3 +110,16 @@ endsOf (suc most) at l = (at + fieldLen (fieldAt l)) ∷ endsBehind (endsOf most
 pub record RowSays (l : List ℕ) (at : ℕ) (last : Bool) (most : ℕ) (ends : List ℕ) (s : Size) (ends′ : List ℕ) : Type 0 where
   pub size : s ≡ sizeOf (recordAt last (min most (length ends)) (drop at l))
   pub ends-after : ends′ ≡ over ends 0 (endsOf (min most (length ends)) at (drop at l))
+
+-- The bytes from one place of a text up to another.
+abbrev pub partOf : List ℕ → ℕ → ℕ → List ℕ
+partOf l from to = take (to - from) (drop from l)
+
+-- Where field c starts of a record at a place, whose fields end at these places: at the record's place, or behind the comma of the field before it.
+abbrev pub startAt : ℕ → List ℕ → ℕ → ℕ
+startAt at ends zero = at
+startAt at ends (suc c) = getD ends c 0 + 1
+
+-- "A kept field is handed back as a part of the record": field c of a record at a place of l, whose fields end at these places.
+abbrev pub nthField : List ℕ → ℕ → List ℕ → ℕ → List ℕ
+nthField l at ends c = partOf l (startAt at ends c) (getD ends c 0)

@@ -1,4 +1,4 @@
-// The records of an RFC 4180 text: one field at a place, the record at a place with where its fields end, and a field as a part of the text.
+// The records of an RFC 4180 text: one field at a place, the record at a place with where its fields end, and each of its fields as a part of the text.
 //
 // Every function takes any place and any bytes. Past a text's end there is nothing.
 use scans::COMMA;
@@ -8,9 +8,9 @@ use scans::QUOTE;
 use scans::byte_at;
 ghost use mathlib.Core.Path.{_≡_};
 ghost use Prim.Native.Nat.{_+_, _-_, _≤_, min};
-ghost use lib.ListN.{length, drop};
-ghost use Rattle.records.specs.Fields.{partOf, plainByte, behind, longerBy, fieldAt, fieldLen};
-ghost use Rattle.records.specs.Rows.{lineEnd, RowSays};
+ghost use lib.ListN.{length, drop, getD};
+ghost use Rattle.records.specs.Fields.{plainByte, behind, longerBy, fieldAt, fieldLen};
+ghost use Rattle.records.specs.Rows.{lineEnd, RowSays, startAt, nthField};
 ghost use Rattle.records.specs.Inner.{PlainRun, QuotedRun, Closing, closedSize, unfinishedSize, endedBy};
 
 // The most bytes of a record before its line end.
@@ -97,13 +97,38 @@ pub fn read_row(text: &[u8], at: usize, last: bool, most: usize, ends: &mut [usi
     Size::Bad
 }
 
-// The bytes from one place of a text up to another, as a part of it; past the text's end there are none. A field is handed back by where it starts and ends.
-pub fn part(text: &[u8], from: usize, to: usize) -> &[u8]
-    ensures { λ r. ⌜ now r ≡ partOf (now (text .entry)) from to ⌝ }
+// Field c, from 0, of the record at a place, as a part of the text; `ends` says where the fields end, as `read_row` leaves it. The field starts at the record's
+// place or behind the comma of the field before it. Behind the last of the ends there is none, and past the text's end it has no bytes.
+pub fn nth_field<'a>(text: &'a [u8], at: usize, ends: &[usize], c: usize) -> &'a [u8]
+    ensures { λ r. ⌜ now r ≡ nthField (now (text .entry)) at (now (ends .entry)) c ⌝ }
 {
-    let end = lesser(to, text.len());
-    let start = lesser(from, end);
+    let end = end_within(ends, c, text.len());
+    let start = start_within(at, ends, c, end);
     &text[start..end]
+}
+
+// Where field c ends, but at most so far; 0 where its end is not known.
+fn end_within(ends: &[usize], c: usize, most: usize) -> usize
+    ensures { λ r. ⌜ r ≡ min (getD (now (ends .entry)) c 0) most ⌝ }
+{
+    if ends.len() <= c {
+        return 0;
+    }
+    lesser(ends[c], most)
+}
+
+// Where field c starts, but at most so far.
+fn start_within(at: usize, ends: &[usize], c: usize, most: usize) -> usize
+    ensures { λ r. ⌜ r ≡ min (startAt at (now (ends .entry)) c) most ⌝ }
+{
+    if c == 0 {
+        return lesser(at, most);
+    }
+    let before = end_within(ends, c - 1, most);
+    if before < most {
+        return before + 1;
+    }
+    most
 }
 
 // The lesser of two numbers.

@@ -6,7 +6,7 @@ use mathlib.Core.List.{List, [], _∷_, _++_}
 use Prim.Native.Nat.{ℕ, _+_, _-_, _^_, _≤_, _<_, zero-le}
 use native.Mathlib.Nat.{add-zero}
 use native.Mathlib.Omega.{arith}
-use lib.ListN.{length, take, drop, set, length-append, length-drop}
+use lib.ListN.{length, take, drop, set, length-append}
 use lib.Seq.{take-take, length-take-le, take-at, drop-at, drop-drop}
 use mir.Syntax.{w64}
 use mir.Val.{Fits}
@@ -16,7 +16,6 @@ use Rattle.laws.specs.Over.{over}
 use Rattle.puts.proofs.Placed.{put-buffer, put-next}
 use Rattle.laws.proofs.Over.{over-is, over-none, set-over, over-length, take-over, drop-over, over-over}
 use Rattle.scans.specs.Ascii.{comma, cr, lf}
-use Rattle.records.specs.Fields.{partOf}
 use Rattle.exports.specs.Text.{withCommas}
 use Rattle.exports.proofs.Joining.{closedEach, closed-commas}
 use Rattle.stripping.specs.Inner.{Made, KeepReady, Keeps, linePlace, EndReady, EndsLine}
@@ -45,39 +44,35 @@ pub set-made : (d : List ℕ) (to b : ℕ) → to < length d → Made d to (b �
 set-made d to b h = record { buffer = set-over d to b h; room = omega arith }
 
 -- A field that is not kept, and one that is kept and put with a comma behind it.
-pub keeps-none : (l : List ℕ) (from end : ℕ) (kept : Bool) (d : List ℕ) (to : ℕ) → not kept ≡ true → KeepReady l from end d to
-    → Keeps l from end kept d to to d
-keeps-none l from end true d to h ready = let z : _≡_ {A = ℕ} 0 1 = cc in absurd (omega arith)
-keeps-none l from end false d to h ready = record { made = made-none d to (omega (arith, ready .room)); next = sym (add-zero to) }
+pub keeps-none : (f : List ℕ) (kept : Bool) (d : List ℕ) (to : ℕ) → not kept ≡ true → KeepReady f d to → Keeps f kept d to to d
+keeps-none f true d to h ready = let z : _≡_ {A = ℕ} 0 1 = cc in absurd (omega arith)
+keeps-none f false d to h ready = record { made = made-none d to (omega (arith, ready .room)); next = sym (add-zero to) }
 
-module _ (l : List ℕ) (from end : ℕ) (d : List ℕ) (to : ℕ) {x d₁ : List ℕ} {r : ℕ} (ready : KeepReady l from end d to)
-    (e : x ≡ partOf l from end) (p : Put d to x d₁ r) where
-  long : length x ≡ end - from
-  long = ap length e ∙ length-take-le (end - from) (drop from l) (omega (arith, length-drop from l, ready .order, ready .inside))
+module _ (f d : List ℕ) (to : ℕ) {x d₁ : List ℕ} {r : ℕ} (ready : KeepReady f d to) (e : x ≡ f) (p : Put d to x d₁ r) where
+  same : Put d to f d₁ r
+  same = subst (λ (y : List ℕ). Put d to y d₁ r) e p
 
-  fits : to + length x ≤ length d
-  fits = omega (arith, long, ready .room)
+  fits : to + length f ≤ length d
+  fits = omega (arith, ready .room)
 
-  next : r ≡ to + length x
-  next = put-next p fits
+  next : r ≡ to + length f
+  next = put-next same fits
 
   size : length d₁ ≡ length d
-  size = made-size (put-made p fits)
+  size = made-size (put-made same fits)
 
   -- There is room for the comma.
   pub comma-in : r < length d₁
-  comma-in = omega (arith, next, size, ready .room, long)
+  comma-in = omega (arith, next, size, ready .room)
 
   pub comma-fits : length d < 2 ^ 64 → Fits w64 (r + 1)
-  comma-fits h = record { fits = omega (arith, next, ready .room, long) }
+  comma-fits h = record { fits = omega (arith, next, ready .room) }
 
-  pub keeps-put : (kept : Bool) → not kept ≡ false → Keeps l from end kept d to (r + 1) (set d₁ r comma)
+  pub keeps-put : (kept : Bool) → not kept ≡ false → Keeps f kept d to (r + 1) (set d₁ r comma)
   keeps-put false h = let z : _≡_ {A = ℕ} 0 1 = cc in absurd (omega arith)
   keeps-put true h = record {
-    made =
-        rw (← e)
-        (made-made (put-made p fits) (subst (λ (k : ℕ). Made d₁ k (comma ∷ []) (set d₁ r comma)) next (set-made d₁ r comma comma-in)));
-    next = rw (← e) (omega (arith, next, length-append x (comma ∷ [])));
+    made = made-made (put-made same fits) (subst (λ (k : ℕ). Made d₁ k (comma ∷ []) (set d₁ r comma)) next (set-made d₁ r comma comma-in));
+    next = omega (arith, next, length-append f (comma ∷ []));
   }
 
 -- The line end behind what was made, over the comma behind the last field or at the place itself.

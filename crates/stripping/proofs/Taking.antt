@@ -15,9 +15,9 @@ use mir.Val.{Fits}
 use types.Run.{OneOf}
 use denote.Enum as enum
 use borrow.Author.Tests.{eq-eqb, ne-eqb}
-use Rattle.records.specs.Rows.{mostFields, RowSays}
+use Rattle.records.specs.Rows.{mostFields, RowSays, startAt}
 use Rattle.records.specs.declared.Extent.{Extent}
-use Rattle.records.specs.Inner.{startAt, FieldSpans, fieldsTo}
+use Rattle.records.specs.Inner.{FieldSpans, fieldsTo}
 use Rattle.records.specs.declared.Size.{Size}
 use Rattle.records.proofs.Size as size
 use Rattle.records.proofs.Parts.{row-length}
@@ -139,7 +139,6 @@ module _ {l : List ℕ} {last : Bool} {kept : List Bool} {d₀ d ends₀ : List 
       spacious = record { room = omega (arith, p .ready .spacious .room, p .size) };
       here = h;
       fits = p .fits .inside h;
-      many = omega (arith, row-length q, p .many, p .ready .narrow);
       spans = subst (FieldSpans l at ends) (fit .all) (fit .row .spans);
     }
 

@@ -8,9 +8,8 @@ use lib.Dec.{ltb, eqb}
 use lib.ListN.{length}
 use Rattle.laws.specs.Over.{over}
 use Rattle.scans.specs.Ascii.{comma, cr, lf}
-use Rattle.records.specs.Fields.{partOf}
-use Rattle.records.specs.Rows.{mostFields, lineEnd}
-use Rattle.records.specs.Inner.{startAt, FieldSpans, fieldsTo}
+use Rattle.records.specs.Rows.{mostFields, lineEnd, startAt}
+use Rattle.records.specs.Inner.{FieldSpans, fieldsTo}
 use Rattle.records.specs.declared.Size.{Size}
 use Rattle.refusals.specs.Sizes.{mostText}
 use Rattle.exports.specs.Rows.{taken}
@@ -37,7 +36,6 @@ pub record PutReady (l : List ℕ) (at : ℕ) (ends : List ℕ) (columns : ℕ) 
   pub spacious : Spacious l d
   pub here : at < length l
   pub fits : to ≤ at
-  pub many : columns ≤ length ends
   pub spans : FieldSpans l at ends columns
 
 -- It was put, and is no longer than the record with a CRLF.
@@ -50,16 +48,14 @@ pub record RowPut (l : List ℕ) (at : ℕ) (ends : List ℕ) (kept : List Bool)
 abbrev pub keptField : Bool → List ℕ → List ℕ
 keptField kept f = cond kept (f ++ comma ∷ []) []
 
--- A field stands within the text, and there is room for it and a comma.
-pub record KeepReady (l : List ℕ) (from end : ℕ) (d : List ℕ) (to : ℕ) : Type 0 where
-  pub order : from ≤ end
-  pub inside : end ≤ length l
-  pub room : to + (end - from) + 1 ≤ length d
+-- There is room for a field and a comma.
+pub record KeepReady (f d : List ℕ) (to : ℕ) : Type 0 where
+  pub room : to + length f + 1 ≤ length d
 
--- The field from one place of l up to another is put, if it is kept, and r is the place behind it.
-pub record Keeps (l : List ℕ) (from end : ℕ) (kept : Bool) (d : List ℕ) (to r : ℕ) (d′ : List ℕ) : Type 0 where
-  pub made : Made d to (keptField kept (partOf l from end)) d′
-  pub next : r ≡ to + length (keptField kept (partOf l from end))
+-- The field is put, if it is kept, and r is the place behind it.
+pub record Keeps (f : List ℕ) (kept : Bool) (d : List ℕ) (to r : ℕ) (d′ : List ℕ) : Type 0 where
+  pub made : Made d to (keptField kept f) d′
+  pub next : r ≡ to + length (keptField kept f)
 
 -- Where the line end goes of what was made from `to` up to n: over the comma, if a field was put.
 abbrev pub linePlace : ℕ → ℕ → ℕ

@@ -1,10 +1,11 @@
-// The line of one record: the kept fields with commas between them. Each of those is handed back as a part of the text.
+// The line of one record: the kept fields with commas between them. Each field is handed back as a part of the record.
 use puts::put;
-use records::part;
+use records::nth_field;
 use scans::COMMA;
 use scans::CR;
 use scans::LF;
 ghost use lib.ListN.{length};
+ghost use Rattle.records.specs.Rows.{nthField};
 ghost use Rattle.stripping.specs.Inner.{PutReady, RowPut, KeepReady, Keeps, EndReady, EndsLine};
 
 // Puts the line of the record at a place, whose fields end at these places.
@@ -19,27 +20,32 @@ pub(crate) fn put_row(
     requires { ⌜ PutReady (now text) at (now ends) (length (now kept)) (now out) to ⌝ }
     ensures { λ r. ⌜ RowPut (now (text .entry)) at (now (ends .entry)) (now (kept .entry)) (now (out .entry)) to r (now (out .exit)) ⌝ }
 {
-    let mut i = at;
     let mut n = to;
     let mut c = 0;
     while c < kept.len() {
-        let end = ends[c];
-        n = keep(text, i, end, kept[c], out, n);
-        i = end + 1;
+        n = keep(text, at, ends, c, kept[c], out, n);
         c += 1;
     }
     end_line(out, to, n)
 }
 
-// Puts a field that is kept, and a comma behind it.
-fn keep(text: &[u8], from: usize, end: usize, kept: bool, out: &mut [u8], to: usize) -> usize
-    requires { ⌜ KeepReady (now text) from end (now out) to ⌝ }
-    ensures { λ r. ⌜ Keeps (now (text .entry)) from end kept (now (out .entry)) to r (now (out .exit)) ⌝ }
+// Puts field c of the record, if it is kept, and a comma behind it.
+fn keep(
+    text: &[u8],
+    at: usize,
+    ends: &[usize],
+    c: usize,
+    kept: bool,
+    out: &mut [u8],
+    to: usize,
+) -> usize
+    requires { ⌜ KeepReady (nthField (now text) at (now ends) c) (now out) to ⌝ }
+    ensures { λ r. ⌜ Keeps (nthField (now (text .entry)) at (now (ends .entry)) c) kept (now (out .entry)) to r (now (out .exit)) ⌝ }
 {
     if !kept {
         return to;
     }
-    let comma = put(part(text, from, end), out, to);
+    let comma = put(nth_field(text, at, ends, c), out, to);
     out[comma] = COMMA;
     comma + 1
 }

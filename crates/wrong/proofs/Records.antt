@@ -7,8 +7,8 @@ use Prim.Native.Nat.{ℕ}
 use native.Mathlib.Omega.{arith}
 use lib.ListN.{drop, getD}
 use Rattle.laws.specs.Over.{over}
-use Rattle.records.specs.Fields.{partOf, plainByte, afterCr, behind, scan, fieldAt}
-use Rattle.records.specs.Rows.{rowOf, recordAt, endsOf, RowSays}
+use Rattle.records.specs.Fields.{plainByte, afterCr, behind, scan, fieldAt}
+use Rattle.records.specs.Rows.{rowOf, recordAt, endsOf, RowSays, nthField}
 use Rattle.records.specs.declared.Field.{Field}
 use Rattle.records.specs.declared.Size.{Size}
 
@@ -35,5 +35,12 @@ pub read-row-leaves-the-ends : (s : Size) → RowSays row 0 false 1 (0 ∷ []) s
 unfolding endsOf scan behind afterCr plainByte over
 read-row-leaves-the-ends s x = let f : _≡_ {A = List ℕ} (0 ∷ []) (1 ∷ []) = x .ends-after in let z : _≡_ {A = ℕ} 0 1 = ap (λ (l : List ℕ). getD l 0 0) f in omega arith
 
-pub part-is-the-front : (97 ∷ []) ≡ partOf (97 ∷ 98 ∷ []) 1 2 → ⊥
-part-is-the-front e = let z : _≡_ {A = ℕ} 97 98 = ap (λ (l : List ℕ). getD l 0 0) e in omega arith
+-- "a,b", whose fields end at 1 and 3: field 1 is "b".
+abbrev fields : List ℕ
+fields = 97 ∷ 44 ∷ 98 ∷ []
+
+pub nth-field-is-the-first : (97 ∷ []) ≡ nthField fields 0 (1 ∷ 3 ∷ []) 1 → ⊥
+nth-field-is-the-first e = let z : _≡_ {A = ℕ} 97 98 = ap (λ (l : List ℕ). getD l 0 0) e in omega arith
+
+pub nth-field-has-the-comma-before-it : (44 ∷ 98 ∷ []) ≡ nthField fields 0 (1 ∷ 3 ∷ []) 1 → ⊥
+nth-field-has-the-comma-before-it e = let z : _≡_ {A = ℕ} 44 98 = ap (λ (l : List ℕ). getD l 0 0) e in omega arith

@@ -42,7 +42,8 @@ slice-aggregate-put-row c = search needs
 put-row-requires : tie.Need-put-row-requires Inv-loop μ-loop
 put-row-requires c κs =
     put-ready (c .before .before .before .before .before .before .before .before .before .before .loop .inv) (search needs)
-    (c .before .before .before .before .before .before .before .read-row .ensures) (c .before .before .before .before .before .fitted .ensures) (c .before .before .before .size .given .1)
+    (c .before .before .before .before .before .before .before .read-row .ensures) (c .before .before .before .before .before .fitted .ensures)
+    (c .before .before .before .size .given .1)
 
 add-at : tie.Need-add-at Inv-loop μ-loop
 add-at c = search (place-fits, needs)

@@ -1,27 +1,24 @@
 -- `find_items` meets its contract. The loop's invariant: the names before are items, and none is repeated. The measure is how many are left. Assumes nothing.
 use Prim.Native.Nat.{_-_}
 use borrow.Author.Needs.{needs}
-use Rattle.columns.proofs.Looking.{Looking, look-none, look-end, look-span, look-absent, look-held, look-repeated, look-room, look-fits, look-more, look-all}
+use Rattle.columns.proofs.Looking.{Looking, look-none, look-field, look-absent, look-held, look-repeated, look-room, look-more, look-all}
 use Rattle.columns.proofs.header.find_items.Statement.{statement}
 use Rattle.columns.proofs.header.find_items.Tie as tie
 
 abbrev Inv-loop : tie.InvT-loop
-Inv-loop items n export ends fields numbers₀ at₀ c₀ numbers at c = Looking items n export ends fields numbers₀ numbers at c
+Inv-loop items n export ends fields numbers₀ c₀ numbers c = Looking items n export ends fields numbers₀ numbers c
 
 abbrev μ-loop : tie.MeasureT-loop
-μ-loop items n export ends fields numbers₀ at₀ c₀ numbers at c = fields - c
+μ-loop items n export ends fields numbers₀ c₀ numbers c = fields - c
 
 loop-holds : tie.Need-loop-holds Inv-loop μ-loop
 loop-holds c = search (look-none, needs)
 
-mul-end : tie.Need-mul-end Inv-loop μ-loop
-mul-end c = search needs
+nth-field-requires : tie.Need-nth-field-requires Inv-loop μ-loop
+nth-field-requires c κs = search needs
 
-shared-slice-read-end : tie.Need-shared-slice-read-end Inv-loop μ-loop
-shared-slice-read-end c = search (look-end, needs)
-
-item-at-requires : tie.Need-item-at-requires Inv-loop μ-loop
-item-at-requires c κs = search (look-span, needs)
+item-named-requires : tie.Need-item-named-requires Inv-loop μ-loop
+item-named-requires c κs = search (look-field, needs)
 
 enum-known-i : tie.Need-enum-known-i Inv-loop μ-loop
 enum-known-i c = search needs
@@ -47,9 +44,6 @@ mul-numbers c = search needs
 slice-write-numbers : tie.Need-slice-write-numbers Inv-loop μ-loop
 slice-write-numbers c = search (look-room, needs)
 
-add-at : tie.Need-add-at Inv-loop μ-loop
-add-at c = search (look-fits, needs)
-
 add-c : tie.Need-add-c Inv-loop μ-loop
 add-c c = search needs
 
@@ -72,9 +66,8 @@ find-items-spec =
     Inv-loop
     μ-loop
     loop-holds
-    mul-end
-    shared-slice-read-end
-    item-at-requires
+    nth-field-requires
+    item-named-requires
     enum-known-i
     same-length
     returns
@@ -83,7 +76,6 @@ find-items-spec =
     returns-2
     mul-numbers
     slice-write-numbers
-    add-at
     add-c
     loop-less
     loop-again

@@ -27,7 +27,8 @@ slice-aggregate-find-items c = search needs
 
 find-items-requires : tie.Need-find-items-requires
 find-items-requires c κs =
-    head-ready (c .before .before .before .before .before .before .read-row .ensures) (search needs) (c .before .before .before .before .before .before .before .before .if1 .left) (c .before .before .before .header .given .1) (search needs) (search needs)
+    head-ready (c .before .before .before .before .before .before .read-row .ensures) (search needs)
+    (c .before .before .before .before .before .before .before .before .if1 .left) (c .before .before .before .header .given .1) (search needs)
 
 refused-requires-2 : tie.Need-refused-requires-2
 refused-requires-2 c κs = search needs

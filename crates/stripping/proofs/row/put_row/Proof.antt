@@ -2,33 +2,24 @@
 use Prim.Native.Nat.{_-_}
 use lib.ListN.{length}
 use borrow.Author.Needs.{needs}
-use Rattle.stripping.proofs.Putting.{PutAt, put-starts, end-there, keep-ready, behind-fits, put-on, line-ready, put-ends}
+use Rattle.stripping.proofs.Putting.{PutAt, put-starts, keep-ready, put-on, line-ready, put-ends}
 use Rattle.stripping.proofs.row.put_row.Statement.{statement}
 use Rattle.stripping.proofs.row.put_row.Tie as tie
 
 abbrev Inv-loop : tie.InvT-loop
-Inv-loop text at ends kept out₀ to i₀ n₀ c₀ out i n c = PutAt text at ends kept out₀ to out i n c
+Inv-loop text at ends kept out₀ to n₀ c₀ out n c = PutAt text at ends kept out₀ to out n c
 
 abbrev μ-loop : tie.MeasureT-loop
-μ-loop text at ends kept out₀ to i₀ n₀ c₀ out i n c = length kept - c
+μ-loop text at ends kept out₀ to n₀ c₀ out n c = length kept - c
 
 loop-holds : tie.Need-loop-holds Inv-loop μ-loop
 loop-holds c = search (put-starts, needs)
-
-mul-end : tie.Need-mul-end Inv-loop μ-loop
-mul-end c = search needs
-
-shared-slice-read-end : tie.Need-shared-slice-read-end Inv-loop μ-loop
-shared-slice-read-end c = search (end-there, needs)
 
 shared-slice-read-keep : tie.Need-shared-slice-read-keep Inv-loop μ-loop
 shared-slice-read-keep c = search needs
 
 keep-requires : tie.Need-keep-requires Inv-loop μ-loop
 keep-requires c κs = search (keep-ready, needs)
-
-add-i : tie.Need-add-i Inv-loop μ-loop
-add-i c = search (behind-fits, needs)
 
 add-c : tie.Need-add-c Inv-loop μ-loop
 add-c c = search needs
@@ -55,11 +46,8 @@ put-row-spec =
     Inv-loop
     μ-loop
     loop-holds
-    mul-end
-    shared-slice-read-end
     shared-slice-read-keep
     keep-requires
-    add-i
     add-c
     loop-less
     loop-again

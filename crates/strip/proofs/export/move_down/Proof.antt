@@ -3,8 +3,8 @@ use mathlib.Core.Path.{_≡_}
 use Prim.Native.Nat.{_≤_, _-_}
 use lib.ListN.{length}
 use borrow.Author.Needs.{needs}
-use Rattle.strip.proofs.move_down.Statement.{statement}
-use Rattle.strip.proofs.move_down.Tie as tie
+use Rattle.strip.proofs.export.move_down.Statement.{statement}
+use Rattle.strip.proofs.export.move_down.Tie as tie
 
 abbrev Inv-loop : tie.InvT-loop
 Inv-loop buf₀ used have rest i₀ buf i = (i ≤ rest) × (length buf ≡ length buf₀)

@@ -1,13 +1,13 @@
--- `strip_all` meets its contract. Assumes nothing.
+-- `strip_records` meets its contract. Assumes nothing.
 use mathlib.Core.Path.{_≡_}
-use Prim.Native.Nat.{_≤_}
 use lib.ListN.{length}
 use borrow.Author.Needs.{needs}
-use Rattle.strip.proofs.strip_all.Statement.{statement}
-use Rattle.strip.proofs.strip_all.Tie as tie
+use Rattle.strip.specs.InnerHeld.{Holds}
+use Rattle.strip.proofs.export.strip_records.Statement.{statement}
+use Rattle.strip.proofs.export.strip_records.Tie as tie
 
 abbrev Inv-loop : tie.InvT-loop
-Inv-loop kept buf₀ have last out₀ place₀ turns₀ buf out place turns = (place .have ≤ length buf) × (length buf ≡ length buf₀) × (32770 ≡ length out)
+Inv-loop kept buf₀ have last out₀ place₀ turns₀ buf out place turns = Holds (place .have) buf × (length buf ≡ length buf₀) × (32770 ≡ length out)
 
 abbrev μ-loop : tie.MeasureT-loop
 μ-loop kept buf₀ have last out₀ place₀ turns₀ buf out place turns = turns
@@ -15,11 +15,11 @@ abbrev μ-loop : tie.MeasureT-loop
 loop-holds : tie.Need-loop-holds Inv-loop μ-loop
 loop-holds c = search needs
 
-slice-aggregate-strip-some : tie.Need-slice-aggregate-strip-some Inv-loop μ-loop
-slice-aggregate-strip-some c = search needs
+slice-aggregate-strip-held : tie.Need-slice-aggregate-strip-held Inv-loop μ-loop
+slice-aggregate-strip-held c = search needs
 
-strip-some-requires : tie.Need-strip-some-requires Inv-loop μ-loop
-strip-some-requires c κs = search needs
+strip-held-requires : tie.Need-strip-held-requires Inv-loop μ-loop
+strip-held-requires c κs = search needs
 
 same-length : tie.Need-same-length Inv-loop μ-loop
 same-length c = search needs
@@ -42,15 +42,15 @@ same-length-2 c = search needs
 returns-2 : tie.Need-returns-2 Inv-loop μ-loop
 returns-2 c = search needs
 
-pub strip-all-spec : {M : Type 1} → statement M
-strip-all-spec =
+pub strip-records-spec : {M : Type 1} → statement M
+strip-records-spec =
     tie.close
     (tie.spec
     Inv-loop
     μ-loop
     loop-holds
-    slice-aggregate-strip-some
-    strip-some-requires
+    slice-aggregate-strip-held
+    strip-held-requires
     same-length
     returns
     sub-turns
