@@ -26,11 +26,11 @@ use Rattle.refusals.specs.Said.{Said}
 use Rattle.refusals.specs.declared.Fault.{Fault}
 use Rattle.refusals.specs.declared.Refusal.{Refusal}
 use Rattle.records.specs.Rows.{Row, line, bare, cut, broken, rowOf, Record, whole, more, bad, mostBytes, mostFields, lineEnd, fewBytes, judged, recordAt}
-use Rattle.records.proofs.Whole.{more-short}
 use Rattle.exports.specs.Names.{unquoted, nameIn, IsItem, HeaderOk, KeepsCovered}
 use Rattle.exports.proofs.Lengths.{whole-holds}
 use Rattle.columns.specs.Columns.{saidKept, saidMore, saidColumns, headerAt, HeaderSays, bad-header, more-header, bad-names, no-room, keeps, ColumnsSays, headed}
 use Rattle.columns.specs.declared.Columns.{Columns}
+use Rattle.columns.proofs.Waiting.{more-few}
 
 -- A statement that is decided of each number is decided of all below a bound.
 all-decided : {P : ℕ → Type 0} → ((j : ℕ) → Dec (P j)) → (n : ℕ) → Dec (AllBelow P n)
@@ -112,11 +112,7 @@ pub data ColumnsAnswered (Says : Said → List Bool → Type 0) (export : List �
 abbrev refusalFor : Fault → ℕ → Refusal
 refusalFor f p = record { fault = f; place = p }
 
--- What waits is short and not the last; a whole header has as many fields as a record may have.
-unfinished-short : (last : Bool) (l : List ℕ) → headerAt last l ≡ more → length l < mostBytes + lineEnd
-unfinished-short last [] e = omega arith
-unfinished-short last (b ∷ l) e = more-short last mostFields (b ∷ l) e
-
+-- What waits is not the last text; a whole header has as many fields as a record may have.
 never-more : (most : ℕ) (l : List ℕ) → recordAt true most l ≡ more → ⊥
 unfolding recordAt
 never-more most l e = by (rowOf most l) e
@@ -160,7 +156,7 @@ module _ (t : List ℕ) (n : ℕ) (labels : ℕ → Class) (reader : Class) (exp
 
       by : (r : Record) → headerAt last export ≡ r → ColumnsAnswered (HeaderSays t n labels reader export last before) export last
       by (whole fs k) e = named fs k e (names-decided t n fs) (decLe (length fs) (length before))
-      by more e = needs-more (more-header e) (unfinished-not-last last export e) (unfinished-short last export e)
+      by more e = needs-more (more-header e) (unfinished-not-last last export e) (more-few last export e)
       by bad e = refuses-export (refusalFor Fault.CsvSyntax 1) (bad-header e)
 
 -- Of labelled items that pass the tests there is an answer to every export, with any buffer.

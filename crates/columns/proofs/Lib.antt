@@ -6,8 +6,8 @@ pub mod Covered
 pub mod Heads
 pub mod Says
 pub mod Kept
+pub mod Waiting
 pub mod Answered
 pub mod Unique
 pub mod Pieces
 pub mod Counted
-pub mod Waiting

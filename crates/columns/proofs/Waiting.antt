@@ -15,7 +15,7 @@ use Rattle.columns.specs.Columns.{saidMore, headerAt, HeaderSays, bad-he
 use Rattle.columns.specs.Columns.{ColumnsSays, bad-items, few-labels, bad-label, headed}
 
 -- A header that is not at its end.
-more-few : (last : Bool) (l : List ℕ) → headerAt last l ≡ more → length l < mostBytes + lineEnd
+pub more-few : (last : Bool) (l : List ℕ) → headerAt last l ≡ more → length l < mostBytes + lineEnd
 more-few last [] e = omega arith
 more-few last (b ∷ l) e = more-short last mostFields (b ∷ l) e
 

@@ -18,7 +18,7 @@ use Rattle.stripping.specs.Stripping.{saidCut, saidStripped, StripSays}
 use Rattle.stripping.specs.declared.Cut.{Cut}
 use Rattle.stripping.specs.declared.Stripped.{Stripped}
 use Rattle.stripping.proofs.Calls.{Inside, text-inside}
-use Rattle.stripping.proofs.Waiting.{none-waits}
+use Rattle.stripping.proofs.Calls.{none-waits}
 use Rattle.strip.specs.InnerHeld.{Held, Holds}
 
 -- So many elements from the front.

@@ -1,16 +1,16 @@
 -- However an export is cut into reads, the calls of `strip` write what is left of the whole export and end with its verdict; and so columns that
--- are held back leave no trace in what they write. It rests on the same of the definition.
+-- are held back leave no trace in what they write; and a text that waits for more is short. It rests on the same of the definition.
 -- Assumes nothing.
 use mathlib.Core.Path.{_≡_, refl, sym, ap, subst, _∙_}
 use mathlib.Core.Bool.{Bool, true, false, false≢true, cond, _&&_}
 use mathlib.Core.List.{List, [], _∷_, _++_}
-use Prim.Native.Nat.{ℕ, _+_, _≤_}
+use Prim.Native.Nat.{ℕ, _+_, _≤_, _<_}
 use native.Mathlib.Nat.{zero-add}
 use native.Mathlib.Omega.{arith}
 use lib.Dec.{ltb, eqb}
 use lib.ListN.{length, getD, take}
 use borrow.Author.Tests.{ltb-false}
-use Rattle.records.specs.Rows.{mostFields}
+use Rattle.records.specs.Rows.{mostBytes, mostFields, lineEnd}
 use Rattle.refusals.specs.Numbers.{faultNumber}
 use Rattle.refusals.specs.Said.{Said, success, refused, refusedBy}
 use Rattle.refusals.specs.Sizes.{mostText}
@@ -18,6 +18,7 @@ use Rattle.refusals.specs.declared.Fault.{Fault}
 use Rattle.laws.proofs.Over.{over-length, take-over}
 use Rattle.exports.specs.Rows.{Taken, taken}
 use Rattle.exports.specs.Text.{Outcome, strippedFrom, HeldBackApart, Verdict, badRecord}
+use Rattle.exports.proofs.Fronts.{AtFront, nothing-yet, bad-first, some-taken, at-front}
 use Rattle.exports.proofs.Taking.{taken-within}
 use Rattle.exports.proofs.Cuts.{Lastly, after-writing, after-refusing, after-all}
 use Rattle.exports.proofs.HeldBack.{held-back-leaves-no-trace}
@@ -91,6 +92,19 @@ text-inside l last kept number out {used} {n} {k} out′ p =
       written-in =
           omega (arith, is .long, is .fits, ap length (p .out-after) ∙ over-length out 0 (madeOf l last kept) (omega (arith, is .fits)));
     }
+
+-- A text that is not the last and of which no record is taken waits for more, and is short: no record that waits for its end has over 4,097 bytes.
+pub none-waits : {l : List ℕ} {kept : List Bool} {number used n : ℕ} {out out′ : List ℕ} → StripSays l false kept number out (saidCut used n 0) out′
+    → length l < mostBytes + lineEnd
+none-waits {l} {kept} {number} {used} {n} {out} {out′} p = by (at-front false (length kept) l)
+  where
+    is : TextIs (length out) (length (madeOf l false kept)) (taken false (length kept) l) used n 0
+    is = says-is l false kept number out (saidCut used n 0) out′ p
+
+    by : AtFront false (length kept) l → length l < mostBytes + lineEnd
+    by (nothing-yet e h) = h
+    by (bad-first e) = absurd (false≢true (sym (subst (λ (t : Taken). (eqb (length (t .rows)) 0 && t .faulty) ≡ false) e (is .good))))
+    by (some-taken h used) = absurd (omega (arith, is .count))
 
 no-rows : (rows : List (List (List ℕ))) → 0 ≡ length rows → rows ≡ []
 no-rows [] e = refl

@@ -5,7 +5,6 @@ pub mod Making
 pub mod Putting
 pub mod Taking
 pub mod Says
-pub mod Waiting
 pub mod Reading
 pub mod Calls
 pub mod Ends
