@@ -1,61 +1,40 @@
 -- What each function answers, one law for each answer that the code can give. They rest on the promises of reading, solving and putting.
 -- Assumes nothing.
 use mathlib.Core.Path.{_≡_, sym, subst}
-use mathlib.Core.List.{List, [], _∷_}
+use mathlib.Core.List.{List}
 use Prim.Native.Nat.{ℕ, _+_, _-_, _*_, _≤_, _<_}
 use native.Mathlib.Nat.{sub-zero}
 use native.Mathlib.Omega.{arith}
 use lib.ListN.{length, take, drop}
 use lib.Seq.{length-take-le}
 use Rattle.laws.specs.Over.{over}
-use Rattle.meaning.specs.Classes.{classes, classParts}
-use Rattle.meaning.proofs.SameBooks.{wanted-moved, refused-moved}
 use Rattle.refusals.specs.declared.Fault.{Fault}
 use Rattle.refusals.specs.declared.Refusal.{Refusal}
 use Rattle.refusals.specs.Sizes.{mostItems, mostRules}
-use Rattle.refusals.specs.Said.{Said, success, refusedBy, saidRefusal}
+use Rattle.refusals.specs.Said.{Said, refusedBy, saidRefusal}
 use Rattle.items.specs.Names.{nameRoom}
 use Rattle.rules.specs.declared.Head.{Head}
 use Rattle.rules.specs.Table.{ruleWords}
 use Rattle.accepts.specs.Tables.{Tables, SameTables}
-use Rattle.accepts.proofs.Counted.{books-same, tables-counted}
+use Rattle.accepts.proofs.Counted.{tables-counted}
 use Rattle.puts.specs.Writing.{Put}
 use Rattle.puts.proofs.Placed.{put-buffer}
 use Rattle.reader.specs.declared.ReadBook.{ReadBook}
 use Rattle.reader.specs.Reading.{saidRead, readText, readWhole, ReadSays}
 use Rattle.reader.proofs.Books.{answer-whole, tables-read, read-tables}
 use Rattle.solver.specs.declared.Solved.{Solved}
-use Rattle.solver.specs.Solving.{saidSolved, Buffers, held, SolveSays, bad-table, no-room, no-labelling, writes-labels}
+use Rattle.solver.specs.Solving.{saidSolved, held, SolveSays}
+use Rattle.solver.proofs.Counted.{solve-counted}
 use Rattle.assign.specs.declared.Assigned.{Assigned}
 use Rattle.assign.specs.Assigning.{saidHead, saidAssigned, Lent, lent, itemsOver, BookSays, short-items, unsolved, solved, AssignSays, unread, read}
 
--- Tables that are equal up to their counts are solved alike.
-solve-moved : {h : Head} {t w t′ w′ : List ℕ} {before after : Buffers} {s : Said} → SameTables h t w t′ w′ → Tables h t w → SolveSays h w′ before s after
-    → SolveSays h w before s after
-solve-moved same a (bad-table x) = absurd (x .bad (tables-counted same a .rules))
-solve-moved same a (no-room x) = no-room (record { accepted = a .rules; short = x .short; untouched = x .untouched })
-solve-moved same a (no-labelling x) = no-labelling (record {
-  accepted = a .rules;
-  room = x .room;
-  unlabelled = refused-moved classParts (books-same same) (x .unlabelled);
-  untouched = x .untouched;
-})
-solve-moved same a (writes-labels x) = writes-labels (record {
-  accepted = a .rules;
-  room = x .room;
-  count = x .count;
-  wanted = wanted-moved classes (books-same same) (x .wanted);
-  levels = x .levels;
-  marks = x .marks;
-})
-
--- So the same is said of the book.
-book-moved : {h : Head} {t w t′ w′ : List ℕ} {before after : Lent} {s : Said} → SameTables h t w t′ w′ → Tables h t w → BookSays h t′ w′ before s after
-    → BookSays h t w before s after
-book-moved same a (short-items x) = short-items x
-book-moved same a (unsolved room x) = unsolved room (solve-moved same a x)
-book-moved {h} {t} {w} {before = before} same a (solved {k} {labels} room x) =
-    subst (λ (y : List ℕ). BookSays h t w before (saidHead h) (lent (over (before .items) 0 y) labels)) (same .items) (solved room (solve-moved same a x))
+-- Of tables that are equal up to their counts the same is said.
+book-moved : {h : Head} {t w t′ w′ : List ℕ} {before after : Lent} {s : Said} → SameTables h t w t′ w′ → BookSays h t′ w′ before s after → BookSays h t w before s after
+book-moved same (short-items x) = short-items x
+book-moved {h} {w = w} {w′ = w′} same (unsolved room x) = unsolved room (solve-counted h w′ w (sym (same .rules)) x)
+book-moved {h} {t} {w} {w′ = w′} {before = before} same (solved {k} {labels} room x) =
+    subst (λ (y : List ℕ). BookSays h t w before (saidHead h) (lent (over (before .items) 0 y) labels)) (same .items)
+    (solved room (solve-counted h w′ w (sym (same .rules)) x))
 
 -- The answers to a book whose tables are right.
 module _ {h : Head} {names rules items levels marks : List ℕ} where
@@ -92,7 +71,7 @@ module _ {l names rules : List ℕ} {answer : ReadBook} {names′ rules′ : Lis
   says-unread e = unread (answer-whole says bytes words e)
 
   pub says-read : {h : Head} → answer ≡ ReadBook.Book h → {before after : Lent} {s : Said} → BookSays h names′ rules′ before s after → AssignSays l before s after
-  says-read e x = let whole = answer-whole says bytes words e in read whole (book-moved (tables-read says e) (read-tables l whole) x)
+  says-read e x = let whole = answer-whole says bytes words e in read whole (book-moved (tables-read says e) x)
 
   pub tables-right : {h : Head} → answer ≡ ReadBook.Book h → Tables h names′ rules′
   tables-right e = tables-counted (tables-read says e) (read-tables l (answer-whole says bytes words e))

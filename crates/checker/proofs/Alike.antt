@@ -1,16 +1,18 @@
--- A list and a flat table of equal rules are answered alike: checking looks at nothing but whether the rules are accepted and what each of them is.
+-- A list and a flat table of equal rules are answered alike, and so are tables that are equal up to their count: checking looks at nothing but whether the rules are
+-- accepted and what each of them is.
 -- Assumes nothing.
 use mathlib.Core.Path.{_≡_, refl, sym, ap, subst, _∙_}
 use mathlib.Core.List.{List}
 use Prim.Native.Nat.{ℕ, zero, suc, _+_, _*_, _≤_, _<_}
 use native.Mathlib.Omega.{arith}
-use lib.ListN.{length}
+use lib.ListN.{length, take}
 use Rattle.laws.specs.First.{FirstFailing}
 use Rattle.refusals.specs.Said.{Said}
 use Rattle.rules.specs.declared.Head.{Head}
 use Rattle.rules.specs.declared.Rule.{Rule}
 use Rattle.rules.specs.Table.{ruleWords, ruleAt}
-use Rattle.accepts.specs.Accepted.{RuleAccepted, Standing, RulesAccepted, TableAccepted}
+use Rattle.accepts.specs.Accepted.{TableAccepted}
+use Rattle.accepts.proofs.Counted.{rule-same, accepted-alike, rules-counted}
 use Rattle.checker.specs.declared.Checked.{Checked}
 use Rattle.checker.specs.Answer.{saidChecked}
 use Rattle.checker.specs.Checking.{RuleMet, CheckSays, bad-table, no-room, bad-label, first-unmet, all-met}
@@ -34,15 +36,6 @@ module _ {m : ℕ} {at other : ℕ → Rule} (same : (r : ℕ) → r < m → at 
 
 -- The rules of two are equal under one head.
 module _ {h : Head} {at other : ℕ → Rule} (same : (r : ℕ) → r < h .rules → at r ≡ other r) where
-  standing-alike : (r : ℕ) → r < h .rules → Standing h at r → Standing h other r
-  standing-alike r s x = record {
-    accepted = subst (RuleAccepted (h .items)) (same r s) (x .accepted);
-    order = λ t. rw (← same r s, ← same (suc r) t) (x .order t);
-  }
-
-  accepted-alike : RulesAccepted h at → RulesAccepted h other
-  accepted-alike x = record { items = x .items; rules = x .rules; each = λ r s. standing-alike r s (x .each r s) }
-
   -- What is said of the one is said of the other, if the one is accepted exactly if the other is.
   pub says-alike : {levels marks : List ℕ} {A B : Type 0} → (A → B) → (B → A) → {s : Said} → CheckSays A h at levels marks s → CheckSays B h other levels marks s
   says-alike f g (bad-table x) = bad-table (λ b. x (g b))
@@ -85,3 +78,8 @@ decoded-same h t room = record {
   tabled = λ s. room;
   each = λ r s. sym (decoded-at t 0 (h .rules) r s ∙ ap (ruleAt t) (omega arith));
 }
+
+-- "entries past it aren't looked at": rule tables that are equal up to their count are answered alike.
+pub check-counted : (h : Head) (t t′ : List ℕ) → take (h .rules * ruleWords) t ≡ take (h .rules * ruleWords) t′ → {levels marks : List ℕ} {s : Said}
+    → CheckSays (TableAccepted h t) h (ruleAt t) levels marks s → CheckSays (TableAccepted h t′) h (ruleAt t′) levels marks s
+check-counted h t t′ e = says-alike (rule-same h t t′ e) (rules-counted h t t′ e) (rules-counted h t′ t (sym e))

@@ -56,13 +56,13 @@ written-read {h} {t} {w} a small short = rw (le-ltb mostText (length (bookText h
 
 -- Tables that agree still do where they are read back.
 agree-back : {p : ℕ} {h k : Head} {t w t′ w′ z u z′ u′ : List ℕ} → SameTables h t w t′ w′ → SameTables k z u z′ u′ → TablesAgree p h w′ k u′ → TablesAgree p h w k u
-agree-back s s′ a = record {
+agree-back {h = h} {k} {w = w} {w′ = w′} {u = u} {u′ = u′} s s′ a = record {
   differ = record {
     items = a .differ .items;
     rules = a .differ .rules;
-    lines = λ r l. rw (← rule-same s r l, ← rule-same s′ r (omega (arith, a .differ .rules))) (a .differ .lines r l);
+    lines = λ r l. rw (rule-same h w w′ (s .rules) r l, rule-same k u u′ (s′ .rules) r (omega (arith, a .differ .rules))) (a .differ .lines r l);
   };
-  classes = λ r l. rw (← rule-same s r l, ← rule-same s′ r (omega (arith, a .differ .rules))) (a .classes r l);
+  classes = λ r l. rw (rule-same h w w′ (s .rules) r l, rule-same k u u′ (s′ .rules) r (omega (arith, a .differ .rules))) (a .classes r l);
 }
 
 -- The texts of tables that agree in a part agree in it.

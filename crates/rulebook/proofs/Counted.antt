@@ -1,6 +1,6 @@
 -- Tables that are equal up to their counts have the same text. It rests on the names and the rules that they share, and on the items that an accepted rule names.
 -- Assumes nothing.
-use mathlib.Core.Path.{_≡_, refl, ap, ap₂, _∙_}
+use mathlib.Core.Path.{_≡_, refl, sym, ap, ap₂, _∙_}
 use mathlib.Core.List.{List, _∷_, [], _++_}
 use Prim.Native.Nat.{ℕ, zero, suc, _+_, _≤_, _<_}
 use native.Mathlib.Omega.{arith}
@@ -49,4 +49,4 @@ module _ {h : Head} {t w t′ w′ : List ℕ} (s : SameTables h t w t′ w′) 
       (pieces-same (λ r. ruleLine t′ (ruleAt w′ r)) (λ r. ruleLine t (ruleAt w r)) 0 (h .rules)
       (λ r l.
       let inside : r < h .rules = omega arith in
-      ap (ruleLine t′) (rule-same s r inside) ∙ line-same (ruleAt w r) (a .rules .accepted .each r inside .accepted)))
+      ap (ruleLine t′) (sym (rule-same h w w′ (s .rules) r inside)) ∙ line-same (ruleAt w r) (a .rules .accepted .each r inside .accepted)))

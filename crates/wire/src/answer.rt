@@ -5,6 +5,7 @@ use refusals::Refusal;
 use refusals::fault_number;
 use rules::Rule;
 use rules::WORDS;
+use rules::put_rule;
 
 // The refusal's number, 0 for a success; its place, or which success it is; and the values of a success, as many as are counted. A rule has the most.
 pub struct Answer {
@@ -54,26 +55,13 @@ pub fn class(class: Class) -> Answer {
 
 // The words of a rule.
 pub fn rule(rule: Rule) -> Answer {
-    let left = rule.left;
+    let mut values = [0; WORDS];
+    put_rule(rule, &mut values, 0);
     Answer {
         refusal: 0,
         which: 0,
         count: WORDS,
-        values: [
-            rule.kind,
-            rule.count,
-            left[0],
-            left[1],
-            left[2],
-            left[3],
-            left[4],
-            left[5],
-            left[6],
-            left[7],
-            rule.right,
-            rule.class.level,
-            rule.class.marks,
-        ],
+        values,
     }
 }
 
