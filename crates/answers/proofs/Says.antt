@@ -1,18 +1,18 @@
 -- What each function answers, one law for each answer that the code can give. They rest on the promises of assigning, writing and putting.
 -- Assumes nothing.
-use mathlib.Core.Path.{_≡_, refl, sym, ap, subst, _∙_}
-use mathlib.Core.List.{List, [], _∷_, _++_}
-use Prim.Native.Nat.{ℕ, _+_, _-_, _*_, _≤_, _<_}
+use mathlib.Core.Path.{_≡_, refl, sym, subst, _∙_}
+use mathlib.Core.List.{List, [], _∷_}
+use Prim.Native.Nat.{ℕ, _-_, _*_, _≤_, _<_}
 use native.Mathlib.Nat.{sub-zero}
 use native.Mathlib.Omega.{arith}
-use lib.ListN.{length, take, drop, length-append}
+use lib.ListN.{length, take, drop}
 use lib.Seq.{length-take-le}
 use Rattle.laws.specs.Over.{over}
 use Rattle.laws.proofs.First.{first-not-all}
 use Rattle.laws.proofs.Buffers.{front-over}
 use Rattle.laws.proofs.Over.{over-length}
 use Rattle.refusals.specs.Numbers.{faultNumber}
-use Rattle.refusals.specs.Sizes.{mostText, mostItems}
+use Rattle.refusals.specs.Sizes.{mostItems}
 use Rattle.refusals.specs.Said.{Said, success, refused}
 use Rattle.refusals.specs.declared.Fault.{Fault}
 use Rattle.refusals.specs.declared.Refusal.{Refusal}

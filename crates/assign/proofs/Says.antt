@@ -20,7 +20,7 @@ use Rattle.accepts.proofs.Counted.{tables-counted}
 use Rattle.puts.specs.Writing.{Put}
 use Rattle.puts.proofs.Placed.{put-buffer}
 use Rattle.reader.specs.declared.ReadBook.{ReadBook}
-use Rattle.reader.specs.Reading.{saidRead, readText, readWhole, ReadSays}
+use Rattle.reader.specs.Reading.{saidRead, ReadSays}
 use Rattle.reader.proofs.Books.{answer-whole, tables-read, read-tables}
 use Rattle.solver.specs.declared.Solved.{Solved}
 use Rattle.solver.specs.Solving.{saidSolved, held, SolveSays}
@@ -29,7 +29,8 @@ use Rattle.assign.specs.declared.Assigned.{Assigned}
 use Rattle.assign.specs.Assigning.{saidHead, saidAssigned, Lent, lent, itemsOver, BookSays, short-items, unsolved, solved, AssignSays, unread, read}
 
 -- Of tables that are equal up to their counts the same is said.
-book-moved : {h : Head} {t w t′ w′ : List ℕ} {before after : Lent} {s : Said} → SameTables h t w t′ w′ → BookSays h t′ w′ before s after → BookSays h t w before s after
+book-moved : {h : Head} {t w t′ w′ : List ℕ} {before after : Lent} {s : Said} → SameTables h t w t′ w′ → BookSays h t′ w′ before s after
+    → BookSays h t w before s after
 book-moved same (short-items x) = short-items x
 book-moved {h} {w = w} {w′ = w′} same (unsolved room x) = unsolved room (solve-counted h w′ w (sym (same .rules)) x)
 book-moved {h} {t} {w} {w′ = w′} {before = before} same (solved {k} {labels} room x) =

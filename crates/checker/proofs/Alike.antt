@@ -1,7 +1,7 @@
 -- A list and a flat table of equal rules are answered alike, and so are tables that are equal up to their count: checking looks at nothing but whether the rules are
 -- accepted and what each of them is.
 -- Assumes nothing.
-use mathlib.Core.Path.{_≡_, refl, sym, ap, subst, _∙_}
+use mathlib.Core.Path.{_≡_, refl, sym, ap, _∙_}
 use mathlib.Core.List.{List}
 use Prim.Native.Nat.{ℕ, zero, suc, _+_, _*_, _≤_, _<_}
 use native.Mathlib.Omega.{arith}

@@ -1,7 +1,7 @@
 -- What a text over a part of a buffer leaves in it: its length, what stands at the place and behind it, and two texts in a row, which are one. They rest on
 -- the library's laws of `paste`, `take`, `drop` and `set`.
 -- Assumes nothing.
-use mathlib.Core.Path.{_≡_, refl, sym, ap, _∙_}
+use mathlib.Core.Path.{_≡_, sym, ap, _∙_}
 use mathlib.Core.List.{List, [], _∷_, _++_, append-assoc, append-nil}
 use Prim.Native.Nat.{ℕ, suc, _+_, _≤_, _<_}
 use native.Mathlib.Nat.{add-zero, add-assoc, le-refl}

@@ -1,8 +1,6 @@
 -- The twelve small books: one test over the whole table, which computes, and one law that makes of it what the table says of each entry.
 -- Assumes nothing.
-use mathlib.Core.Path.{_≡_}
-use mathlib.Core.Bool.{Bool, true, false, _&&_}
-use mathlib.Core.List.{List, [], _∷_}
+use mathlib.Core.Bool.{Bool, _&&_}
 use Prim.Native.Nat.{ℕ, _<_}
 use lib.Dec.{T, eqb, eqb→eq}
 use lib.ListN.{length, getD}
@@ -11,7 +9,7 @@ use Rattle.laws.specs.Every.{everyBelow}
 use Rattle.classes.specs.Parts.{part, topOf}
 use Rattle.classes.specs.declared.Class.{Class}
 use Rattle.meaning.specs.Rules.{Book}
-use Rattle.meaning.specs.Classes.{classes, classParts}
+use Rattle.meaning.specs.Classes.{classParts}
 use Rattle.meaning.specs.Examples.{Answer, labels, refused, Example, listed, Right, examples, p8}
 use Rattle.meaning.proofs.Search.{every-at, failing, and-left, and-right}
 use Rattle.meaning.proofs.Settle.{tabulate, total, metDownb, metUpb, push, settle, greatestList, solvableb}

@@ -1,18 +1,18 @@
 -- Lowering, in one part: from the greatest labelling, each item in turn to the least value that still leaves a labelling. The end is least at the
 -- first difference. Nothing is asked of the part but its top.
 -- Assumes nothing.
-use mathlib.Core.Path.{_≡_, refl, sym, _∙_, subst}
+use mathlib.Core.Path.{_≡_, refl, _∙_}
 use mathlib.Core.Bool.{Bool, true, false}
 use mathlib.Core.Logic.{_⊎_, inl, inr, ite, if-pos, if-neg}
-use Prim.Native.Nat.{ℕ, zero, suc, _+_, _≤_, _<_, min, max}
+use Prim.Native.Nat.{ℕ, zero, suc, _≤_, _<_, min}
 use native.Mathlib.Decide.{ℕ-discrete, decLe}
 use native.Mathlib.Nat.{not-suc-le-zero}
 use native.Mathlib.Omega.{arith}
 use lib.Dec.{T, leb, leb→le, le→leb}
-use Rattle.meaning.specs.Values.{Values, StrictlyBelow, numbers}
+use Rattle.meaning.specs.Values.{Values, numbers}
 use Rattle.meaning.specs.Rules.{Book, Inside}
-use Rattle.meaning.specs.Labelling.{Labelling, FirstDifference, Wanted}
-use Rattle.meaning.specs.InnerGreatest.{HeldUp, PushedDown, Greatest, Placed}
+use Rattle.meaning.specs.Labelling.{Labelling, Wanted}
+use Rattle.meaning.specs.InnerGreatest.{HeldUp, Greatest, Placed}
 use Rattle.meaning.specs.InnerLowered.{AgreeBefore, LabellingBelow, Lowered, NoneLess, WantedBelow}
 use Rattle.meaning.proofs.Search.{below-suc, FirstYes, first-yes}
 use Rattle.meaning.proofs.Lattice.{Lattice}

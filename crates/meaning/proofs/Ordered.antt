@@ -4,9 +4,9 @@ use mathlib.Core.Path.{_≡_, sym}
 use Prim.Native.Nat.{ℕ, zero, suc, _≤_, _<_}
 use native.Mathlib.Nat.{not-suc-le-zero}
 use native.Mathlib.Omega.{arith}
-use Rattle.meaning.specs.Values.{Values, StrictlyBelow}
+use Rattle.meaning.specs.Values.{Values}
 use Rattle.meaning.specs.Rules.{Book}
-use Rattle.meaning.specs.Labelling.{Labelling, FirstDifference, Wanted, Minimal}
+use Rattle.meaning.specs.Labelling.{FirstDifference, Wanted, Minimal}
 use Rattle.meaning.specs.InnerLowered.{AgreeBefore}
 use Rattle.meaning.proofs.Search.{below-suc}
 

@@ -6,7 +6,7 @@ use native.Mathlib.Omega.{arith}
 use Rattle.meaning.specs.Values.{Values, StrictlyBelow}
 use Rattle.meaning.specs.Rules.{Rule, cap, floor, follow, Book, RuleInside, Inside, joinOver, Met}
 use Rattle.meaning.specs.Labelling.{Labelling, FirstDifference, Wanted}
-use Rattle.meaning.specs.InnerLowered.{AgreeBefore, LabellingBelow, Lowered}
+use Rattle.meaning.specs.InnerLowered.{AgreeBefore, Lowered}
 use Rattle.meaning.proofs.Joins.{joinOver-same}
 
 -- A rule that is met is met by equal labels.

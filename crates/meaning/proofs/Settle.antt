@@ -1,13 +1,11 @@
 -- The greatest labelling below a bound that meets all caps and follows: it exists, since lowering labels until every such rule is met ends in it;
 -- it is unique; and it meets the floors exactly if some labelling below the bound meets all rules. Over any values that meet the laws.
 -- Assumes nothing.
-use mathlib.Core.Path.{_≡_, refl, sym, _∙_, ap, ap₂, subst}
-use mathlib.Core.Bool.{Bool, true, false, not}
+use mathlib.Core.Path.{_≡_, refl, sym, _∙_, ap, subst}
+use mathlib.Core.Bool.{Bool, true}
 use mathlib.Core.List.{List, [], _∷_}
 use mathlib.Core.Option.{Option, none, some}
-use mathlib.Core.Logic.{_⊎_, inl, inr}
 use Prim.Native.Nat.{ℕ, zero, suc, _+_, _≤_, _<_}
-use native.Mathlib.Decide.{ℕ-discrete}
 use native.Mathlib.Nat.{not-suc-le-zero}
 use native.Mathlib.Omega.{arith}
 use lib.Dec.{T}
@@ -15,7 +13,7 @@ use lib.ListN.{length, getD, set, length-set}
 use lib.Seq.{getD-set-same, getD-set-other}
 use Rattle.laws.specs.Every.{everyBelow}
 use Rattle.meaning.specs.Values.{Values}
-use Rattle.meaning.specs.Rules.{Left, Rule, cap, floor, follow, Book, RuleInside, Inside, LeftInside, joinOver, Met}
+use Rattle.meaning.specs.Rules.{Rule, cap, floor, follow, Book, RuleInside, Inside, joinOver, Met}
 use Rattle.meaning.specs.Labelling.{Labelling}
 use Rattle.meaning.specs.InnerGreatest.{MetDown, MetUp, HeldUp, PushedDown, Between, Greatest, Placed, Pushed}
 use Rattle.meaning.proofs.Lattice.{Lattice}

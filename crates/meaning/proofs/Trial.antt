@@ -1,16 +1,16 @@
 -- Tests that compute: whether labels are the wanted ones of a book, and whether a part is its refused one. A yes is a proof.
 -- Assumes nothing.
-use mathlib.Core.Path.{_≡_, refl, sym, _∙_, subst}
-use mathlib.Core.Bool.{Bool, true, false, not, _&&_, cond}
+use mathlib.Core.Path.{_≡_, refl, sym, subst}
+use mathlib.Core.Bool.{Bool, true, not, _&&_, cond}
 use Prim.Native.Nat.{ℕ, zero, suc, _≤_, _<_}
 use native.Mathlib.Decide.{ℕ-discrete, decLt}
 use native.Mathlib.Omega.{arith}
 use borrow.Author.Tests.{lt-ltb, le-ltb, eq-eqb, ne-eqb}
 use lib.Dec.{T, leb, ltb, eqb, leb→le, ltb→lt, T-not}
 use Rattle.laws.specs.Every.{everyBelow}
-use Rattle.meaning.specs.Values.{Values, numbers}
+use Rattle.meaning.specs.Values.{numbers}
 use Rattle.meaning.specs.Rules.{Left, LeftInside, Rule, cap, floor, follow, Book, RuleInside, Inside, Met}
-use Rattle.meaning.specs.Labelling.{Labelling, FirstDifference, Wanted}
+use Rattle.meaning.specs.Labelling.{Labelling, Wanted}
 use Rattle.meaning.specs.Parts.{Parts, inPart, partValues, Refused}
 use Rattle.meaning.proofs.Search.{every-at, and-left, and-right}
 use Rattle.meaning.proofs.Settle.{metDownb, downb-holds, metUpb, upb-holds, met-both, labelsOf, greatestList, solvableb, solvable-labels, labelling-solvable}

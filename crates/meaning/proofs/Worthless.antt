@@ -1,19 +1,16 @@
 -- The four worthless solvers of document 01. What each would answer on a book of the table is not what the definitions allow.
 -- Assumes nothing.
-use mathlib.Core.Path.{_≡_, sym, _∙_, ap}
-use mathlib.Core.Bool.{Bool}
-use Prim.Native.Nat.{ℕ, zero, suc, _<_}
+use mathlib.Core.Path.{ap}
+use Prim.Native.Nat.{ℕ, zero, suc}
 use native.Mathlib.Omega.{arith}
-use lib.Dec.{T}
-use lib.ListN.{length}
 use Rattle.classes.specs.Class.{classOf, lowest, highest}
 use Rattle.laws.specs.Every.{everyBelow}
 use Rattle.classes.specs.declared.Class.{Class}
-use Rattle.meaning.specs.Rules.{Book, Inside}
-use Rattle.meaning.specs.Labelling.{Labelling, Wanted}
+use Rattle.meaning.specs.Rules.{Inside}
+use Rattle.meaning.specs.Labelling.{Wanted}
 use Rattle.meaning.specs.Parts.{Refused}
 use Rattle.meaning.specs.Classes.{classes, classParts}
-use Rattle.meaning.specs.Examples.{Example, Right, listed, p3, p4}
+use Rattle.meaning.specs.Examples.{Right, p3, p4}
 use Rattle.meaning.proofs.Trial.{leftb, ruleb, insideb, insideb-holds}
 use Rattle.meaning.proofs.Examples.{examples-right}
 use Rattle.meaning.proofs.Demands.{wanted-unique, refused-unlabelled}

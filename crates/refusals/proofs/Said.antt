@@ -1,7 +1,7 @@
 -- An answer is known by what it says: where each answer can be told back from what it says, two answers that say the same are equal. A fault can be told
 -- back from its number, and a refusal from its number and its place.
 -- Assumes nothing.
-use mathlib.Core.Path.{_≡_, refl, sym, ap, ap₂, _∙_}
+use mathlib.Core.Path.{_≡_, refl, sym, ap, _∙_}
 use mathlib.Core.List.{List, [], _∷_}
 use Prim.Native.Nat.{ℕ}
 use lib.ListN.{getD}

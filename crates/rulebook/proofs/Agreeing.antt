@@ -55,7 +55,8 @@ written-read : {h : Head} {t w : List ℕ} → Tables h t w → Words w → leng
 written-read {h} {t} {w} a small short = rw (le-ltb mostText (length (bookText h t w)) short) (write-read a small .answer)
 
 -- Tables that agree still do where they are read back.
-agree-back : {p : ℕ} {h k : Head} {t w t′ w′ z u z′ u′ : List ℕ} → SameTables h t w t′ w′ → SameTables k z u z′ u′ → TablesAgree p h w′ k u′ → TablesAgree p h w k u
+agree-back : {p : ℕ} {h k : Head} {t w t′ w′ z u z′ u′ : List ℕ} → SameTables h t w t′ w′ → SameTables k z u z′ u′ → TablesAgree p h w′ k u′
+    → TablesAgree p h w k u
 agree-back {h = h} {k} {w = w} {w′ = w′} {u = u} {u′ = u′} s s′ a = record {
   differ = record {
     items = a .differ .items;

@@ -10,7 +10,7 @@ use mir.Syntax.{w64}
 use mir.Val.{Fits}
 use Rattle.laws.specs.Tells.{Tells}
 use Rattle.laws.proofs.Tells.{told-no, told-yes}
-use Rattle.classes.specs.Class.{topLevel, classOf, IsClass, highest}
+use Rattle.classes.specs.Class.{topLevel, classOf, IsClass}
 use Rattle.classes.specs.Parts.{partCount, part, topOf}
 use Rattle.classes.proofs.Bits.{bit-small}
 use Rattle.classes.proofs.Parts.{highest-parts}

@@ -5,7 +5,7 @@ use Prim.Native.Nat.{_+_, _^_, _≤_, _<_, min}
 use native.Mathlib.Decide.{decLt}
 use native.Mathlib.Omega.{arith}
 use lib.Bits.{bitAnd, and-le-l}
-use Rattle.classes.specs.Bits.{bit, word}
+use Rattle.classes.specs.Bits.{bit}
 use Rattle.classes.specs.Class.{classOf, Covers, commonOf}
 use Rattle.classes.specs.declared.Class.{Class}
 use Rattle.classes.proofs.Bits.{bit-small, bit-le, bit-and, word-bits, and-word}
