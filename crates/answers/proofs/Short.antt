@@ -75,6 +75,3 @@ module _ {l out d : List ℕ} {a : Written} (says : RoutineSays l out (saidWritt
 
   pub answer-within : {k : ℕ} → a ≡ Written.Text k → k ≤ length d
   answer-within {k} e = let same = sym text ∙ e in let count : in-buffer room says .len ≡ k = cc in omega (arith, in-buffer room says .within)
-
-  pub never-roomless : {r : Refusal} → a ≡ Written.Refused r → ⊥
-  never-roomless e = let same = sym text ∙ e in let never : _≡_ {A = ℕ} 0 1 = cc in omega arith

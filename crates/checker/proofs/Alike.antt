@@ -1,18 +1,17 @@
--- A list and a flat table of equal rules are answered alike, and so are tables that are equal up to their count: checking looks at nothing but whether the rules are
--- accepted and what each of them is.
+-- A list and a flat table of equal rules are answered alike: checking looks at nothing but whether the rules are accepted and what each of them is.
 -- Assumes nothing.
 use mathlib.Core.Path.{_≡_, refl, sym, ap, _∙_}
 use mathlib.Core.List.{List}
 use Prim.Native.Nat.{ℕ, zero, suc, _+_, _*_, _≤_, _<_}
 use native.Mathlib.Omega.{arith}
-use lib.ListN.{length, take}
+use lib.ListN.{length}
 use Rattle.laws.specs.First.{FirstFailing}
 use Rattle.refusals.specs.Said.{Said}
 use Rattle.rules.specs.declared.Head.{Head}
 use Rattle.rules.specs.declared.Rule.{Rule}
 use Rattle.rules.specs.Table.{ruleWords, ruleAt}
 use Rattle.accepts.specs.Accepted.{TableAccepted}
-use Rattle.accepts.proofs.Counted.{rule-same, accepted-alike, rules-counted}
+use Rattle.accepts.proofs.Counted.{accepted-alike}
 use Rattle.checker.specs.declared.Checked.{Checked}
 use Rattle.checker.specs.Answer.{saidChecked}
 use Rattle.checker.specs.Checking.{RuleMet, CheckSays, bad-table, no-room, bad-label, first-unmet, all-met}
@@ -78,8 +77,3 @@ decoded-same h t room = record {
   tabled = λ s. room;
   each = λ r s. sym (decoded-at t 0 (h .rules) r s ∙ ap (ruleAt t) (omega arith));
 }
-
--- "entries past it aren't looked at": rule tables that are equal up to their count are answered alike.
-pub check-counted : (h : Head) (t t′ : List ℕ) → take (h .rules * ruleWords) t ≡ take (h .rules * ruleWords) t′ → {levels marks : List ℕ} {s : Said}
-    → CheckSays (TableAccepted h t) h (ruleAt t) levels marks s → CheckSays (TableAccepted h t′) h (ruleAt t′) levels marks s
-check-counted h t t′ e = says-alike (rule-same h t t′ e) (rules-counted h t t′ e) (rules-counted h t′ t (sym e))

@@ -35,8 +35,8 @@ not-found x h i e = other (subst (λ (y : Found). OneOf (1 ∷ 2 ∷ []) (enum.D
     other (inr d) = omega arith
 
 -- Two names that are found at one item are equal.
-found-same : (t : List ℕ) (n : ℕ) (x y : List ℕ) (i : ℕ) → findIn t n x ≡ Found.At i → findIn t n y ≡ Found.At i → x ≡ y
-found-same t n x y i e d = sym (found-bytes t n x i e) ∙ found-bytes t n y i d
+one-name : (t : List ℕ) (n : ℕ) (x y : List ℕ) (i : ℕ) → findIn t n x ≡ Found.At i → findIn t n y ≡ Found.At i → x ≡ y
+one-name t n x y i e d = sym (found-bytes t n x i e) ∙ found-bytes t n y i d
 
 -- c names are looked up.
 pub record Looking (t : List ℕ) (n : ℕ) (l ends : List ℕ) (fields : ℕ) (numbers₀ numbers : List ℕ) (c : ℕ) : Type 0 where
@@ -121,7 +121,7 @@ module _ {t : List ℕ} {n : ℕ} {l ends : List ℕ} {fields : ℕ} {numbers₀
               tells-no
               (λ ok.
               ok .distinct (s .place) c (s .below) (omega (arith, count))
-              (found-same t n (nameIn fs (s .place)) (nameIn fs c) i (w .items (s .place) (s .below) ∙ ap Found.At (s .same)) (column ∙ a)));
+              (one-name t n (nameIn fs (s .place)) (nameIn fs c) i (w .items (s .place) (s .below) ∙ ap Found.At (s .same)) (column ∙ a)));
           items = λ z. absurd (true-not-false z refl);
         }
           where

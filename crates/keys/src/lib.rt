@@ -1,4 +1,4 @@
-// The six keys: their texts, which one stands at a place of a text, and which may come next.
+// The six keys: their texts, which one stands at a place of a text, and which may come next; and the texts of the keys of lines that are only printed.
 //
 // Every function takes any place and any number. Past a text's end no key stands, and a number that is no row or no column of the table is
 // answered no.

@@ -1,5 +1,5 @@
--- Texts that agree in a part are the texts of tables that agree in it, and the other way round; and their lines are the same but for classes. So which books differ only in
--- the classes written there does not depend on how they are read. It rests on reading and writing undoing each other.
+-- Texts that agree in a part are the texts of tables that agree in it; the texts of such tables, where they are not too long, agree in it; and their lines are the same but
+-- for classes. It rests on reading and writing undoing each other.
 -- Assumes nothing.
 use mathlib.Core.Path.{_≡_, refl, sym, subst, _∙_}
 use mathlib.Core.List.{List, [], _∷_, _++_, append-assoc}

@@ -71,7 +71,7 @@ fn sweep(rules: &[u64], head: Head, back: bool, levels: &mut [u64], marks: &mut 
 }
 
 // Lowers labels until every cap and every follow is met, and answers the parts in which some floor is then not met. Sweeps go
-// forward and back in turn, so that a chain of follows in either order is one sweep.
+// forward and back in turn, so that a chain of follows in either order needs no sweep for each link.
 pub(crate) fn settle(rules: &[u64], head: Head, levels: &mut [u64], marks: &mut [u64]) -> Class
     requires { ⌜ Usable head (now rules) (held (now levels) (now marks)) ⌝ }
     ensures { λ w. ⌜ Settles head (now (rules .entry)) (held (now (levels .entry)) (now (marks .entry))) (held (now (levels .exit)) (now (marks .exit))) w ⌝ }

@@ -1,5 +1,5 @@
--- However an export is cut into reads, the calls of `strip` write what is left of the whole export and end with its verdict; and so columns that
--- are held back leave no trace in what they write; and a text that waits for more is short. It rests on the same of the definition.
+-- However an export is cut into reads, the calls of `strip` write what is left of the whole export and end with its verdict; and a text that waits for more is short. It
+-- rests on the same of the definition.
 -- Assumes nothing.
 use mathlib.Core.Path.{_≡_, refl, sym, ap, subst, _∙_}
 use mathlib.Core.Bool.{Bool, true, false, false≢true, cond, _&&_}
@@ -17,11 +17,10 @@ use Rattle.refusals.specs.Sizes.{mostText}
 use Rattle.refusals.specs.declared.Fault.{Fault}
 use Rattle.laws.proofs.Over.{over-length, take-over}
 use Rattle.exports.specs.Rows.{Taken, taken}
-use Rattle.exports.specs.Text.{Outcome, strippedFrom, HeldBackApart, Verdict, badRecord}
+use Rattle.exports.specs.Text.{strippedFrom, Verdict, badRecord}
 use Rattle.exports.proofs.Fronts.{AtFront, nothing-yet, bad-first, some-taken, at-front}
 use Rattle.exports.proofs.Taking.{taken-within}
 use Rattle.exports.proofs.Cuts.{Lastly, after-writing, after-refusing, after-all}
-use Rattle.exports.proofs.HeldBack.{held-back-leaves-no-trace}
 use Rattle.stripping.specs.Stripping.{saidCut, answerTo, madeOf, stripAnswer, StripSays}
 use Rattle.stripping.specs.Calls.{allOf, noneToCome, Calls, writes, reads, done, refuses}
 use Rattle.stripping.proofs.Says.{first-bad}
@@ -148,13 +147,3 @@ calls-strip {kept} {number} {held} {pieces} (refuses {place = place} {out} {out�
 
     bad : (taken (noneToCome pieces) (length kept) held .rows ≡ []) × (taken (noneToCome pieces) (length kept) held .faulty ≡ true)
     bad = first-bad (taken (noneToCome pieces) (length kept) held .rows) (taken (noneToCome pieces) (length kept) held .faulty) (is .bad)
-
--- "Accepted exports that differ only in columns held back give the same bytes", however each was cut into reads.
-pub calls-hold-back : {kept keptToo : List Bool} {number numberToo : ℕ} {held heldToo : List ℕ} {pieces piecesToo : List (List ℕ)} {text textToo : List ℕ}
-    {v w : Verdict} → Calls kept number held pieces text v → Calls keptToo numberToo heldToo piecesToo textToo w
-    → HeldBackApart kept keptToo (taken true (length kept) (held ++ allOf pieces) .rows) (taken true (length keptToo) (heldToo ++ allOf piecesToo) .rows)
-    → text ≡ textToo
-calls-hold-back {kept} {keptToo} {number} {numberToo} {held} {heldToo} {pieces} {piecesToo} p q apart =
-    sym (ap (λ (o : Outcome). o .text) (calls-strip p))
-    ∙ held-back-leaves-no-trace kept keptToo number numberToo (held ++ allOf pieces) (heldToo ++ allOf piecesToo) apart
-    ∙ ap (λ (o : Outcome). o .text) (calls-strip q)

@@ -268,9 +268,6 @@ decimal-cases P p q r s t n = cases (ltb n 10) (ltb n 100) (ltb n 1000) (ltb n 1
     cases false false false true = s
     cases false false false false = t
 
-pub decimal-least : (n : ℕ) → 1 ≤ decimalLen n
-decimal-least = decimal-cases (λ k. 1 ≤ k) (omega arith) (omega arith) (omega arith) (omega arith) (omega arith)
-
 pub decimal-most : (n : ℕ) → decimalLen n ≤ countDigits
 decimal-most = decimal-cases (λ k. k ≤ countDigits) (omega arith) (omega arith) (omega arith) (omega arith) (omega arith)
 
