@@ -67,7 +67,7 @@ goes-longer k Field.Open g h = reaches-longer (suc k + 1) (k + 1) g (omega arith
 goes-longer k Field.Bad g h = ap (longerBy 1) h
 
 -- A test on a byte that is there falls out the same.
-both : (P : Field → Field → Type 0) (t : Bool) (f g h i : Field) → P f g → P h i → P (cond t f h) (cond t g i)
+pub both : (P : Field → Field → Type 0) (t : Bool) (f g h i : Field) → P f g → P h i → P (cond t f h) (cond t g i)
 both P true f g h i p q = p
 both P false f g h i p q = q
 
