@@ -12,23 +12,21 @@ CRLF = b"\r\n"
 QUOTED = re.compile(grammar.ESCAPED + rb'(?!")')
 PLAIN = re.compile(grammar.NON_ESCAPED)
 CLOSED = re.compile(rb"(" + grammar.FIELD + rb"(?:," + grammar.FIELD + rb")*)" + CRLF)
-BEGUN = re.compile(rb"((?:" + grammar.FIELD + rb",)*)(?:" + grammar.FIELD + rb'\r?|"(?:[^"]|"")*)\Z')
+BEGUN = re.compile(rb"((?:" + grammar.FIELD + rb",)*)(?:(" + grammar.FIELD + rb')\r?|"(?:[^"]|"")*)\Z')
 
-COMMA, LINE, END, OPEN, BAD_FIELD = range(5)
+COMMA, LINE, END, CR, OPEN, BAD_FIELD = range(6)
 MORE, BAD = "more", "bad"
 
 
 def read_field(text, at):
-    """The field at a place with what stands behind it; open where the text ends between quotes or between CR and LF."""
+    """The field at a place with what stands behind it; open where the text ends between quotes."""
     text = text[at:]
     found = (QUOTED if text[:1] == b'"' else PLAIN).match(text)
     if not found:
         return success(which=OPEN)
     size = found.end()
     behind = text[size:]
-    if behind == b"\r":
-        return success(which=OPEN)
-    for which, holds in ((END, not behind), (COMMA, behind[:1] == b","), (LINE, behind[:2] == CRLF)):
+    for which, holds in ((END, not behind), (COMMA, behind[:1] == b","), (LINE, behind[:2] == CRLF), (CR, behind == b"\r")):
         if holds:
             return success(size, which=which)
     return success(which=BAD_FIELD)
@@ -37,16 +35,17 @@ def read_field(text, at):
 def record(text, last, most_fields):
     """The fields of the record at the front of a text, and its bytes with its line end; MORE where it may end in bytes to come, else BAD.
 
-    Nothing comes if the text is the last. A record is at most 4,096 bytes and its CRLF, so that it does not end behind 4,098.
+    Nothing comes if the text is the last. A record is at most 4,096 bytes before its CRLF, and between quotes a closing quote is still to come.
     """
     found = (grammar.RECORD if last else CLOSED).match(text)
     if found:
         fields = grammar.fields_of(found[1])
         return (fields, found.end()) if len(found[1]) <= grammar.MOST_BYTES and len(fields) <= most_fields else BAD
     begun = None if last else BEGUN.match(text)
-    if begun and len(text) < grammar.MOST_BYTES + len(CRLF) and len(grammar.fields_of(begun[1])) <= most_fields:
-        return MORE
-    return BAD
+    if not begun or len(grammar.fields_of(begun[1])) > most_fields:
+        return BAD
+    least = len(text) + 1 if begun[2] is None else begun.end(2)
+    return MORE if least <= grammar.MOST_BYTES else BAD
 
 
 def read_row(text, at, last, most, ends):

@@ -35,7 +35,7 @@ SUCCESSES = {
     "read_count": ["count", "bad"],
     "read_class": ["class", "bad"],
     "read_key": ["key", "bad"],
-    "read_field": ["comma", "line", "end", "open", "bad"],
+    "read_field": ["comma", "line", "end", "cr", "open", "bad"],
     "put": ["next"],
     "put_count": ["next"],
     "put_class": ["next"],

@@ -25,7 +25,7 @@ use Rattle.rules.specs.declared.Head.{Head}
 use Rattle.refusals.specs.Said.{Said}
 use Rattle.refusals.specs.declared.Fault.{Fault}
 use Rattle.refusals.specs.declared.Refusal.{Refusal}
-use Rattle.records.specs.Rows.{Row, line, bare, cut, broken, rowOf, Record, whole, more, bad, mostBytes, mostFields, lineEnd, fewBytes, judged, recordAt}
+use Rattle.records.specs.Rows.{Row, line, bare, halved, cut, broken, rowOf, Record, whole, more, bad, mostBytes, mostFields, lineEnd, fewBytes, judged, recordAt}
 use Rattle.exports.specs.Names.{unquoted, nameIn, IsItem, HeaderOk, KeepsCovered}
 use Rattle.exports.proofs.Lengths.{whole-holds}
 use Rattle.columns.specs.Columns.{saidKept, saidMore, saidColumns, headerAt, HeaderSays, bad-header, more-header, bad-names, no-room, keeps, ColumnsSays, headed}
@@ -124,6 +124,7 @@ never-more most l e = by (rowOf most l) e
     by : (r : Row) → judged true (length l) r ≡ more → ⊥
     by (line fs k) f = closed (fewBytes k) fs (k + lineEnd) f
     by (bare fs k) f = closed (fewBytes k) fs (k + 0) f
+    by (halved k) f = let z : _≡_ {A = ℕ} 0 1 = cc in omega arith
     by cut f = let z : _≡_ {A = ℕ} 0 1 = cc in omega arith
     by broken f = let z : _≡_ {A = ℕ} 0 1 = cc in omega arith
 

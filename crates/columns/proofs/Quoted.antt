@@ -75,6 +75,7 @@ abbrev Inside : List ℕ → Field → Type 0
 Inside l (Field.Comma k) = Between l k
 Inside l (Field.Line k) = Between l k
 Inside l (Field.End k) = Between l k
+Inside l (Field.Cr k) = Between l k
 Inside l Field.Open = Unit {0}
 Inside l Field.Bad = Unit {0}
 
@@ -90,6 +91,7 @@ inside-more : (b : ℕ) (l : List ℕ) (f : Field) → (b ≡ quote → ⊥) →
 inside-more b l (Field.Comma k) h g = between-more b l k h g
 inside-more b l (Field.Line k) h g = between-more b l k h g
 inside-more b l (Field.End k) h g = between-more b l k h g
+inside-more b l (Field.Cr k) h g = between-more b l k h g
 inside-more b l Field.Open h g = tt
 inside-more b l Field.Bad h g = tt
 
@@ -106,6 +108,7 @@ inside-doubled : (l : List ℕ) (f : Field) → Inside l f → Inside (quote ∷
 inside-doubled l (Field.Comma k) g = between-doubled l k g
 inside-doubled l (Field.Line k) g = between-doubled l k g
 inside-doubled l (Field.End k) g = between-doubled l k g
+inside-doubled l (Field.Cr k) g = between-doubled l k g
 inside-doubled l Field.Open g = tt
 inside-doubled l Field.Bad g = tt
 
@@ -127,7 +130,7 @@ over-behind : (l : List ℕ) → Over l (behind l)
 unfolding behind afterCr
 over-behind [] = between-shut []
 over-behind (b ∷ []) =
-    either (Over (b ∷ [])) (eqb b comma) _ _ (between-shut (b ∷ [])) (either (Over (b ∷ [])) (eqb b cr) _ _ tt tt)
+    either (Over (b ∷ [])) (eqb b comma) _ _ (between-shut (b ∷ [])) (either (Over (b ∷ [])) (eqb b cr) _ _ (between-shut (b ∷ [])) tt)
 over-behind (b ∷ d ∷ l) =
     either (Over (b ∷ d ∷ l)) (eqb b comma) _ _ (between-shut (b ∷ d ∷ l))
     (either (Over (b ∷ d ∷ l)) (eqb b cr) _ _ (either (Over (b ∷ d ∷ l)) (eqb d lf) _ _ (between-shut (b ∷ d ∷ l)) tt) tt)
@@ -181,6 +184,7 @@ inside-named : (t : List ℕ) (n : ℕ) (l : List ℕ) (f : Field) → Inside l 
 inside-named t n l (Field.Comma k) g = between-named t n l k g
 inside-named t n l (Field.Line k) g = between-named t n l k g
 inside-named t n l (Field.End k) g = between-named t n l k g
+inside-named t n l (Field.Cr k) g = between-named t n l k g
 inside-named t n l Field.Open g = none-named t n l
 inside-named t n l Field.Bad g = none-named t n l
 

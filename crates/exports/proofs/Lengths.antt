@@ -10,7 +10,7 @@ use native.Mathlib.Omega.{arith}
 use lib.ListN.{length, take, drop, length-take, length-drop, length-append, drop-of-length-le}
 use Rattle.scans.specs.Ascii.{cr, lf}
 use Rattle.records.specs.Fields.{fieldAt}
-use Rattle.records.specs.Rows.{Row, line, bare, cut, broken, fieldBefore, rowFrom, rowOf, Record, whole, more, bad, fewBytes, mayGoOn, lineEnd, judged, recordAt}
+use Rattle.records.specs.Rows.{Row, line, bare, halved, cut, broken, fieldBefore, rowFrom, rowOf, Record, whole, more, bad, fewBytes, lineEnd, judged, recordAt}
 use Rattle.records.specs.declared.Field.{Field}
 use Rattle.records.proofs.Whole.{RowLies, row-lies}
 use Rattle.exports.specs.Rows.{recordOf, takeOn, takenFrom, taken}
@@ -55,6 +55,7 @@ record RowHolds (most : ℕ) (fs : List (List ℕ)) (n : ℕ) : Type 0 where
 abbrev Holds : ℕ → Row → Type 0
 Holds most (line fs n) = RowHolds most fs n
 Holds most (bare fs n) = RowHolds most fs n
+Holds most (halved n) = Unit {0}
 Holds most cut = Unit {0}
 Holds most broken = Unit {0}
 
@@ -77,6 +78,7 @@ row-holds (suc most) l = by (fieldAt l) (λ n. row-holds most (drop (n + 1) l))
     before : (n : ℕ) (r : Row) → Holds most r → Holds (suc most) (fieldBefore (take n l) n r)
     before n (line fs k) h = more-fields most n k l fs h
     before n (bare fs k) h = more-fields most n k l fs h
+    before n (halved k) h = tt
     before n cut h = tt
     before n broken h = tt
 
@@ -84,6 +86,7 @@ row-holds (suc most) l = by (fieldAt l) (λ n. row-holds most (drop (n + 1) l))
     by (Field.Comma n) g = before n (rowOf most (drop (n + 1) l)) (g n)
     by (Field.Line n) g = one-field most n l
     by (Field.End n) g = one-field most n l
+    by (Field.Cr n) g = tt
     by Field.Open g = tt
     by Field.Bad g = tt
 
@@ -111,9 +114,11 @@ says last most l (line fs k) lies h =
     says-closed (fewBytes k) most l fs (k + lineEnd) (record { bytes = omega (arith, h .bytes); line = λ i. omega (arith, h .bytes); few = h .few })
 says true most l (bare fs k) lies h =
     says-closed (fewBytes k) most l fs (k + 0) (record { bytes = omega (arith, h .bytes); line = λ i. absurd (omega (arith, lies .0)); few = h .few })
-says false most l (bare fs k) lies h = says-unfinished (mayGoOn (length l)) most l
+says false most l (bare fs k) lies h = says-unfinished (fewBytes k) most l
+says true most l (halved k) lies h = tt
+says false most l (halved k) lies h = says-unfinished (fewBytes k) most l
 says true most l cut lies h = tt
-says false most l cut lies h = says-unfinished (mayGoOn (length l)) most l
+says false most l cut lies h = says-unfinished (fewBytes (length l + 1)) most l
 says last most l broken lies h = tt
 
 pub whole-holds : (last : Bool) (most : ℕ) (l : List ℕ) {fs : List (List ℕ)} {k : ℕ} → recordAt last most l ≡ whole fs k → WholeHolds most l fs k

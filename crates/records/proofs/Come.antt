@@ -10,8 +10,8 @@ use native.Mathlib.Omega.{arith}
 use lib.ListN.{length, take, drop, length-drop, length-append}
 use lib.Seq.{drop-drop}
 use Rattle.records.specs.Fields.{fieldAt}
-use Rattle.records.specs.Rows.{Row, line, bare, cut, broken, fieldBefore, rowFrom, rowOf, lineEnd}
-use Rattle.records.specs.Rows.{whole, more, bad, fewBytes, mayGoOn, judged, recordAt, sizeOf}
+use Rattle.records.specs.Rows.{Row, line, bare, halved, cut, broken, fieldBefore, rowFrom, rowOf, lineEnd}
+use Rattle.records.specs.Rows.{whole, more, bad, fewBytes, judged, recordAt, sizeOf}
 use Rattle.records.specs.Inner.{endedBy}
 use Rattle.records.specs.declared.Field.{Field}
 use Rattle.records.specs.declared.Size.{Size}
@@ -21,6 +21,7 @@ use Rattle.records.proofs.Within.{comma-within}
 abbrev pub onto : List (List ℕ) → ℕ → Row → Row
 onto fs k (line gs n) = line (fs ++ gs) (k + n)
 onto fs k (bare gs n) = bare (fs ++ gs) (k + n)
+onto fs k (halved n) = halved (k + n)
 onto fs k cut = cut
 onto fs k broken = broken
 
@@ -34,6 +35,7 @@ pub record Come (most : ℕ) (l : List ℕ) (fs : List (List ℕ)) (k left : ℕ
 onto-none : (r : Row) → r ≡ onto [] 0 r
 onto-none (line gs n) = rw (zero-add n)
 onto-none (bare gs n) = rw (zero-add n)
+onto-none (halved n) = rw (zero-add n)
 onto-none cut = refl
 onto-none broken = refl
 
@@ -45,6 +47,7 @@ sum k n m = omega arith
 onto-before : (fs : List (List ℕ)) (k : ℕ) (f : List ℕ) (n : ℕ) (r : Row) → onto fs k (fieldBefore f n r) ≡ onto (fs ++ f ∷ []) (k + n + 1) r
 onto-before fs k f n (line gs m) = rw (append-assoc fs (f ∷ []) gs) (ap (line (fs ++ f ∷ gs)) (sum k n m))
 onto-before fs k f n (bare gs m) = rw (append-assoc fs (f ∷ []) gs) (ap (bare (fs ++ f ∷ gs)) (sum k n m))
+onto-before fs k f n (halved m) = ap halved (sum k n m)
 onto-before fs k f n cut = refl
 onto-before fs k f n broken = refl
 
@@ -101,7 +104,9 @@ module _ {most : ℕ} {l : List ℕ} {fs : List (List ℕ)} {k left : ℕ} (p : 
   come-ended last (Field.Comma n) e h = absurd (h n refl)
   come-ended last (Field.Line n) e h = ap sizeOf (record-by last e) ∙ sized-closed (fewBytes (k + n)) (take n (drop k l)) (k + n + lineEnd)
   come-ended true (Field.End n) e h = ap sizeOf (record-by true e) ∙ sized-closed (fewBytes (k + n)) (take n (drop k l)) (k + n + 0)
-  come-ended false (Field.End n) e h = ap sizeOf (record-by false e) ∙ sized-unfinished (mayGoOn (length l))
+  come-ended false (Field.End n) e h = ap sizeOf (record-by false e) ∙ sized-unfinished (fewBytes (k + n))
+  come-ended true (Field.Cr n) e h = ap sizeOf (record-by true e)
+  come-ended false (Field.Cr n) e h = ap sizeOf (record-by false e) ∙ sized-unfinished (fewBytes (k + n))
   come-ended true Field.Open e h = ap sizeOf (record-by true e)
-  come-ended false Field.Open e h = ap sizeOf (record-by false e) ∙ sized-unfinished (mayGoOn (length l))
+  come-ended false Field.Open e h = ap sizeOf (record-by false e) ∙ sized-unfinished (fewBytes (length l + 1))
   come-ended last Field.Bad e h = ap sizeOf (record-by last e)

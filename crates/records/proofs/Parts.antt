@@ -15,8 +15,8 @@ use Rattle.laws.specs.Over.{over}
 use Rattle.laws.proofs.Buffers.{over-inside}
 use Rattle.laws.proofs.Over.{over-length}
 use Rattle.records.specs.Fields.{fieldAt, fieldLen}
-use Rattle.records.specs.Rows.{Row, line, bare, cut, broken, fieldBefore, rowFrom, rowOf}
-use Rattle.records.specs.Rows.{Record, whole, more, bad, fewBytes, mayGoOn, judged, recordAt, sizeOf, endsBehind, endsOf, RowSays}
+use Rattle.records.specs.Rows.{Row, line, bare, halved, cut, broken, fieldBefore, rowFrom, rowOf}
+use Rattle.records.specs.Rows.{Record, whole, more, bad, fewBytes, judged, recordAt, sizeOf, endsBehind, endsOf, RowSays}
 use Rattle.records.specs.Rows.{partOf, startAt, nthField}
 use Rattle.records.specs.Inner.{FieldSpan, FieldSpans, fieldsTo}
 use Rattle.records.specs.declared.Extent.{Extent}
@@ -110,6 +110,7 @@ record RowBy (l : List ℕ) (at : ℕ) (es : List ℕ) (fs : List (List ℕ)) (k
 abbrev RowLaid : List ℕ → ℕ → List ℕ → Row → Type 0
 RowLaid l at es (line fs k) = RowBy l at es fs k
 RowLaid l at es (bare fs k) = RowBy l at es fs k
+RowLaid l at es (halved k) = Unit {0}
 RowLaid l at es cut = Unit {0}
 RowLaid l at es broken = Unit {0}
 
@@ -128,6 +129,7 @@ module _ (l : List ℕ) (at n : ℕ) (h : at ≤ length l) (e : n ≡ fieldLen (
   before-laid : (es : List ℕ) (r : Row) → RowLaid l (at + n + 1) es r → RowLaid l at ((at + n) ∷ es) (fieldBefore (take n (drop at l)) n r)
   before-laid es (line fs k) p = by-more p
   before-laid es (bare fs k) p = by-more p
+  before-laid es (halved k) p = tt
   before-laid es cut p = tt
   before-laid es broken p = tt
 
@@ -148,6 +150,7 @@ row-laid (suc most) l at h = by (fieldAt (drop at l)) refl (λ n g. row-laid mos
         place = drop-drop (n + 1) at l ∙ ap (λ (k : ℕ). drop k l) (let s : at + (n + 1) ≡ at + n + 1 = omega arith in s)
     by (Field.Line n) e ih = by-one l at n h (sym (ap fieldLen e))
     by (Field.End n) e ih = by-one l at n h (sym (ap fieldLen e))
+    by (Field.Cr n) e ih = tt
     by Field.Open e ih = tt
     by Field.Bad e ih = tt
 
@@ -162,6 +165,7 @@ few-ends (suc most) at l = by (fieldAt l) (λ n. few-ends most (at + n + 1) (dro
     by (Field.Comma n) g = omega (arith, g n)
     by (Field.Line n) g = omega arith
     by (Field.End n) g = omega arith
+    by (Field.Cr n) g = omega arith
     by Field.Open g = omega arith
     by Field.Bad g = omega arith
 
@@ -205,10 +209,12 @@ module _ (l : List ℕ) (at : ℕ) (h : at ≤ length l) (es : List ℕ) where
         least = omega (arith, p .last, c .1);
         line = λ g. absurd (omega (arith, lies .0, c .1, length-drop at l));
       })
-  whole-by false (bare gs k) lies p e = absurd (not-whole (mayGoOn (length (drop at l))) e)
-  whole-by true cut lies p e = let z : _≡_ {A = ℕ} 0 1 = cc in absurd (omega arith)
-  whole-by false cut lies p e = absurd (not-whole (mayGoOn (length (drop at l))) e)
-  whole-by last broken lies p e = let z : _≡_ {A = ℕ} 0 1 = cc in absurd (omega arith)
+  whole-by false (bare gs k) lies p e = absurd (not-whole (fewBytes k) e)
+  whole-by true (halved k) lies p e = absurd (not-whole false e)
+  whole-by false (halved k) lies p e = absurd (not-whole (fewBytes k) e)
+  whole-by true cut lies p e = absurd (not-whole false e)
+  whole-by false cut lies p e = absurd (not-whole (fewBytes (length (drop at l) + 1)) e)
+  whole-by last broken lies p e = absurd (not-whole false e)
 
 -- The ends at the front of a buffer.
 module _ (d es : List ℕ) (room : length es ≤ length d) where

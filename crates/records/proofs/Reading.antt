@@ -26,14 +26,15 @@ use Rattle.records.proofs.Within.{comma-within, len-within}
 use Rattle.records.proofs.Come.{Come, come-start, come-on, come-ended, come-too-many}
 
 -- The other variants are no Comma.
-no-comma : (f : Field) → OneOf (1 ∷ 2 ∷ 3 ∷ 4 ∷ []) (enum.Declared.tagOf field.the-type f) → (n : ℕ) → f ≡ Field.Comma n → ⊥
-no-comma f h n e = other (subst (λ (g : Field). OneOf (1 ∷ 2 ∷ 3 ∷ 4 ∷ []) (enum.Declared.tagOf field.the-type g)) e h)
+no-comma : (f : Field) → OneOf (1 ∷ 2 ∷ 3 ∷ 4 ∷ 5 ∷ []) (enum.Declared.tagOf field.the-type f) → (n : ℕ) → f ≡ Field.Comma n → ⊥
+no-comma f h n e = other (subst (λ (g : Field). OneOf (1 ∷ 2 ∷ 3 ∷ 4 ∷ 5 ∷ []) (enum.Declared.tagOf field.the-type g)) e h)
   where
-    other : OneOf (1 ∷ 2 ∷ 3 ∷ 4 ∷ []) 0 → ⊥
+    other : OneOf (1 ∷ 2 ∷ 3 ∷ 4 ∷ 5 ∷ []) 0 → ⊥
     other (inl d) = omega arith
     other (inr (inl d)) = omega arith
     other (inr (inr (inl d))) = omega arith
-    other (inr (inr (inr d))) = omega arith
+    other (inr (inr (inr (inl d)))) = omega arith
+    other (inr (inr (inr (inr d)))) = omega arith
 
 -- One end more is stored behind those before it.
 set-more : (d x : List ℕ) (c e : ℕ) → length x ≡ c → c < length d → set (over d 0 x) c e ≡ over d 0 (x ++ e ∷ [])
@@ -59,6 +60,7 @@ module _ (most at : ℕ) (l : List ℕ) where
   ends-last (Field.Comma n) e h = absurd (h n refl)
   ends-last (Field.Line n) e h = ends-next e
   ends-last (Field.End n) e h = ends-next e
+  ends-last (Field.Cr n) e h = ends-next e
   ends-last Field.Open e h = ends-next e
   ends-last Field.Bad e h = ends-next e
 
@@ -141,7 +143,7 @@ module _ {l : List ℕ} {at most : ℕ} {ends₀ ends : List ℕ} {room i c : �
         ∙ ap (over ends₀ 0) (sym g)
 
     -- No comma stands behind the next field: the record ends with it.
-    pub row-last : (last : Bool) {k : ℕ} {r : Size} → c < room → OneOf (1 ∷ 2 ∷ 3 ∷ 4 ∷ []) (enum.Declared.tagOf field.the-type f)
+    pub row-last : (last : Bool) {k : ℕ} {r : Size} → c < room → OneOf (1 ∷ 2 ∷ 3 ∷ 4 ∷ 5 ∷ []) (enum.Declared.tagOf field.the-type f)
         → k ≡ length l - at → r ≡ endedBy last k (c + 1) (i - at) f → RowSays l at last most ends₀ r (set ends c (i + len))
     row-last last {k} {r} h o j g = ending (p .left) (p .come) (p .rest)
       where

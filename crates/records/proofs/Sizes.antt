@@ -4,7 +4,7 @@
 use mathlib.Core.Path.{_≡_}
 use mathlib.Core.Bool.{Bool, true, false}
 use Prim.Native.Nat.{ℕ, _+_, _≤_, _<_}
-use borrow.Author.Tests.{lt-ltb, le-ltb, le-leb, lt-leb}
+use borrow.Author.Tests.{le-leb, lt-leb}
 use Rattle.records.specs.Rows.{mostBytes, lineEnd}
 use Rattle.records.specs.Inner.{closedSize, unfinishedSize, endedBy}
 use Rattle.records.specs.declared.Field.{Field}
@@ -18,12 +18,12 @@ module _ (c k e : ℕ) where
   pub size-whole : k ≤ mostBytes → Size.Whole (record { fields = c; bytes = k + e }) ≡ closedSize c k e
   size-whole h = rw (le-leb k mostBytes h)
 
--- A text of n bytes is too short for a record's longest form; or it is not.
-pub size-more : (n : ℕ) → n < mostBytes + lineEnd → Size.More ≡ unfinishedSize n
-size-more n h = rw (lt-ltb n (mostBytes + lineEnd) h)
+-- A record that does not end in the text, with at least k bytes before its line end, may still end behind it; or it is too long.
+pub size-more : (k : ℕ) → k ≤ mostBytes → Size.More ≡ unfinishedSize k
+size-more k h = rw (le-leb k mostBytes h)
 
-pub size-enough : (n : ℕ) → mostBytes + lineEnd ≤ n → Size.Bad ≡ unfinishedSize n
-size-enough n h = rw (le-ltb n (mostBytes + lineEnd) h)
+pub size-enough : (k : ℕ) → mostBytes < k → Size.Bad ≡ unfinishedSize k
+size-enough k h = rw (lt-leb k mostBytes h)
 
 -- A record by its last field.
 module _ (last : Bool) (n c k : ℕ) {found : Field} where
@@ -33,11 +33,11 @@ module _ (last : Bool) (n c k : ℕ) {found : Field} where
   pub ended-end : {m : ℕ} {r : Size} → found ≡ Field.End m → last ≡ true → r ≡ closedSize c (k + m) 0 → r ≡ endedBy last n c k found
   ended-end e g f = rw (e, g) f
 
-  pub ended-end-more : {m : ℕ} {r : Size} → found ≡ Field.End m → last ≡ false → r ≡ unfinishedSize n → r ≡ endedBy last n c k found
+  pub ended-end-more : {m : ℕ} {r : Size} → found ≡ Field.End m → last ≡ false → r ≡ unfinishedSize (k + m) → r ≡ endedBy last n c k found
   ended-end-more e g f = rw (e, g) f
 
-  pub ended-cut : found ≡ Field.Open → last ≡ true → Size.Bad ≡ endedBy last n c k found
-  ended-cut e g = rw (e, g)
+  pub ended-cr-more : {m : ℕ} {r : Size} → found ≡ Field.Cr m → last ≡ false → r ≡ unfinishedSize (k + m) → r ≡ endedBy last n c k found
+  ended-cr-more e g f = rw (e, g) f
 
-  pub ended-cut-more : {r : Size} → found ≡ Field.Open → last ≡ false → r ≡ unfinishedSize n → r ≡ endedBy last n c k found
+  pub ended-cut-more : {r : Size} → found ≡ Field.Open → last ≡ false → r ≡ unfinishedSize (n + 1) → r ≡ endedBy last n c k found
   ended-cut-more e g f = rw (e, g) f

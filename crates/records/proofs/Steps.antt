@@ -21,6 +21,7 @@ pub longer-longer : (a b : ℕ) (f : Field) → longerBy a (longerBy b f) ≡ lo
 longer-longer a b (Field.Comma k) = rw (add-assoc a b k)
 longer-longer a b (Field.Line k) = rw (add-assoc a b k)
 longer-longer a b (Field.End k) = rw (add-assoc a b k)
+longer-longer a b (Field.Cr k) = rw (add-assoc a b k)
 longer-longer a b Field.Open = refl
 longer-longer a b Field.Bad = refl
 
@@ -29,6 +30,7 @@ pub longer-none : (f : Field) → f ≡ longerBy 0 f
 longer-none (Field.Comma k) = rw (zero-add k)
 longer-none (Field.Line k) = rw (zero-add k)
 longer-none (Field.End k) = rw (zero-add k)
+longer-none (Field.Cr k) = rw (zero-add k)
 longer-none Field.Open = refl
 longer-none Field.Bad = refl
 
@@ -72,7 +74,7 @@ module _ (l : List ℕ) (i : ℕ) where
     unfolding behind
     behind-cr e = rw (drop-step l i h, ne-eqb (getD l i 0) comma (λ z. omega arith), eq-eqb (getD l i 0) cr e)
 
-  pub cr-none : length l ≤ i → afterCr (drop i l) ≡ Field.Open
+  pub cr-none : length l ≤ i → afterCr (drop i l) ≡ Field.Cr 0
   unfolding afterCr
   cr-none h = rw (drop-of-length-le l h)
 
@@ -148,11 +150,11 @@ module _ (l : List ℕ) (at len : ℕ) where
   found-bad h e f = rw (behind-other l (at + len) h e f)
 
   module _ (h : at + len < length l) (e : getD l (at + len) 0 ≡ cr) where
-    pub found-open : length l ≤ at + len + 1 → Field.Open ≡ longerBy len (behind (drop (at + len) l))
-    found-open g = rw (behind-cr l (at + len) h e, cr-none l (at + len + 1) g)
+    pub found-cr : length l ≤ at + len + 1 → Field.Cr len ≡ longerBy len (behind (drop (at + len) l))
+    found-cr g = rw (behind-cr l (at + len) h e, cr-none l (at + len + 1) g, add-zero len)
 
     pub found-line : at + len + 1 < length l → getD l (at + len + 1) 0 ≡ lf → Field.Line len ≡ longerBy len (behind (drop (at + len) l))
     found-line g f = rw (behind-cr l (at + len) h e, cr-lf l (at + len + 1) g f, add-zero len)
 
-    pub found-cr : at + len + 1 < length l → (getD l (at + len + 1) 0 ≡ lf → ⊥) → Field.Bad ≡ longerBy len (behind (drop (at + len) l))
-    found-cr g f = rw (behind-cr l (at + len) h e, cr-other l (at + len + 1) g f)
+    pub found-cr-bad : at + len + 1 < length l → (getD l (at + len + 1) 0 ≡ lf → ⊥) → Field.Bad ≡ longerBy len (behind (drop (at + len) l))
+    found-cr-bad g f = rw (behind-cr l (at + len) h e, cr-other l (at + len + 1) g f)

@@ -7,17 +7,18 @@ use mathlib.Core.List.{List}
 use Prim.Native.Nat.{ℕ, zero, suc, _+_, _≤_, _<_}
 use native.Mathlib.Omega.{arith}
 use lib.ListN.{length, take, drop, length-drop}
-use borrow.Author.Tests.{ltb-true}
+use borrow.Author.Tests.{leb-true}
 use Rattle.records.specs.Fields.{fieldAt}
-use Rattle.records.specs.Rows.{Row, line, bare, cut, broken, fieldBefore, rowFrom, rowOf}
-use Rattle.records.specs.Rows.{Record, whole, more, bad, mostBytes, lineEnd, fewBytes, mayGoOn, judged, recordAt}
+use Rattle.records.specs.Rows.{Row, line, bare, halved, cut, broken, fieldBefore, rowFrom, rowOf}
+use Rattle.records.specs.Rows.{Record, whole, more, bad, mostBytes, lineEnd, fewBytes, judged, recordAt}
 use Rattle.records.specs.declared.Field.{Field}
-use Rattle.records.proofs.Within.{comma-within, line-within, end-within}
+use Rattle.records.proofs.Within.{comma-within, line-within, end-within, cr-within}
 
 -- A row has a field, and lies within the text.
 abbrev pub RowLies : ℕ → Row → Type 0
 RowLies size (line fs n) = (n + 2 ≤ size) × (1 ≤ length fs)
 RowLies size (bare fs n) = (n ≡ size) × (1 ≤ length fs)
+RowLies size (halved n) = n + 1 ≡ size
 RowLies size cut = Unit {0}
 RowLies size broken = Unit {0}
 
@@ -25,6 +26,7 @@ RowLies size broken = Unit {0}
 before-lies : (f : List ℕ) (n size rest : ℕ) → n + 1 + rest ≡ size → (r : Row) → RowLies rest r → RowLies size (fieldBefore f n r)
 before-lies f n size rest e (line fs m) h = (omega (arith, h .0), omega arith)
 before-lies f n size rest e (bare fs m) h = (omega (arith, h .0), omega arith)
+before-lies f n size rest e (halved m) h = omega arith
 before-lies f n size rest e cut h = tt
 before-lies f n size rest e broken h = tt
 
@@ -41,6 +43,7 @@ row-lies (suc most) l = by (fieldAt l) refl (λ n. row-lies most (drop (n + 1) l
         (rowOf most (drop (n + 1) l)) (g n)
     by (Field.Line n) e g = (line-within l e, omega arith)
     by (Field.End n) e g = (end-within l e, omega arith)
+    by (Field.Cr n) e g = cr-within l e
     by Field.Open e g = tt
     by Field.Bad e g = tt
 
@@ -61,9 +64,9 @@ says-closed : (t : Bool) (l : List ℕ) (fs : List (List ℕ)) (k : ℕ) → Who
 says-closed true l fs k h = h
 says-closed false l fs k h = tt
 
-says-unfinished : (t : Bool) (l : List ℕ) → mayGoOn (length l) ≡ t → Says l (cond t more bad)
-says-unfinished true l e = ltb-true (length l) (mostBytes + lineEnd) e
-says-unfinished false l e = tt
+says-unfinished : (t : Bool) (l : List ℕ) (k : ℕ) → length l ≤ k + 1 → fewBytes k ≡ t → Says l (cond t more bad)
+says-unfinished true l k h e = omega (arith, leb-true k mostBytes e)
+says-unfinished false l k h e = tt
 
 -- What a row says, it says as a record.
 judged-says : (last : Bool) (l : List ℕ) (r : Row) → RowLies (length l) r → Says l (judged last (length l) r)
@@ -71,9 +74,11 @@ judged-says last l (line fs k) h =
     says-closed (fewBytes k) l fs (k + lineEnd) (record { within = h .0; some = λ i. omega arith; fields = h .1 })
 judged-says true l (bare fs k) h =
     says-closed (fewBytes k) l fs (k + 0) (record { within = omega (arith, h .0); some = λ i. omega (arith, h .0); fields = h .1 })
-judged-says false l (bare fs k) h = says-unfinished (mayGoOn (length l)) l refl
+judged-says false l (bare fs k) h = says-unfinished (fewBytes k) l k (omega (arith, h .0)) refl
+judged-says true l (halved k) h = tt
+judged-says false l (halved k) h = says-unfinished (fewBytes k) l k (omega arith) refl
 judged-says true l cut h = tt
-judged-says false l cut h = says-unfinished (mayGoOn (length l)) l refl
+judged-says false l cut h = says-unfinished (fewBytes (length l + 1)) l (length l + 1) (omega arith) refl
 judged-says last l broken h = tt
 
 -- A record that is whole is there.

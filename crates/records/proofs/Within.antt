@@ -17,6 +17,7 @@ abbrev Lies : List ℕ → Field → Type 0
 Lies l (Field.Comma n) = n + 1 ≤ length l
 Lies l (Field.Line n) = n + 2 ≤ length l
 Lies l (Field.End n) = n ≡ length l
+Lies l (Field.Cr n) = n + 1 ≡ length l
 Lies l Field.Open = Unit {0}
 Lies l Field.Bad = Unit {0}
 
@@ -25,6 +26,7 @@ longer-lies : (b : ℕ) (l : List ℕ) (f : Field) → Lies l f → Lies (b ∷ 
 longer-lies b l (Field.Comma n) h = omega arith
 longer-lies b l (Field.Line n) h = omega arith
 longer-lies b l (Field.End n) h = omega arith
+longer-lies b l (Field.Cr n) h = omega arith
 longer-lies b l Field.Open h = tt
 longer-lies b l Field.Bad h = tt
 
@@ -37,7 +39,7 @@ either P false f g h i = i
 behind-lies : (l : List ℕ) → Lies l (behind l)
 unfolding behind afterCr
 behind-lies [] = refl
-behind-lies (b ∷ []) = either (Lies (b ∷ [])) (eqb b comma) _ _ (omega arith) (either (Lies (b ∷ [])) (eqb b cr) _ _ tt tt)
+behind-lies (b ∷ []) = either (Lies (b ∷ [])) (eqb b comma) _ _ (omega arith) (either (Lies (b ∷ [])) (eqb b cr) _ _ (omega arith) tt)
 behind-lies (b ∷ d ∷ l) =
     either (Lies (b ∷ d ∷ l)) (eqb b comma) _ _ (omega arith)
     (either (Lies (b ∷ d ∷ l)) (eqb b cr) _ _ (either (Lies (b ∷ d ∷ l)) (eqb d lf) _ _ (omega arith) tt) tt)
@@ -61,7 +63,7 @@ scan-lies quoted (b ∷ l) =
     either (Lies (b ∷ l)) (eqb b quote) _ _ (further closed b l (scan-lies closed l)) (further quoted b l (scan-lies quoted l))
 scan-lies closed (b ∷ l) = either (Lies (b ∷ l)) (eqb b quote) _ _ (further quoted b l (scan-lies quoted l)) (behind-lies (b ∷ l))
 
--- A comma, a CRLF and nothing stand behind the field within the text.
+-- A comma, a CRLF, nothing and a CR stand behind the field within the text.
 module _ (l : List ℕ) {n : ℕ} where
   pub comma-within : fieldAt l ≡ Field.Comma n → n + 1 ≤ length l
   comma-within e = subst (Lies l) e (scan-lies start l)
@@ -72,6 +74,9 @@ module _ (l : List ℕ) {n : ℕ} where
   pub end-within : fieldAt l ≡ Field.End n → n ≡ length l
   end-within e = subst (Lies l) e (scan-lies start l)
 
+  pub cr-within : fieldAt l ≡ Field.Cr n → n + 1 ≡ length l
+  cr-within e = subst (Lies l) e (scan-lies start l)
+
 -- A field has no more bytes than the text.
 pub len-within : (l : List ℕ) → fieldLen (fieldAt l) ≤ length l
 len-within l = by (fieldAt l) refl
@@ -80,5 +85,6 @@ len-within l = by (fieldAt l) refl
     by (Field.Comma n) e = omega (arith, comma-within l e)
     by (Field.Line n) e = omega (arith, line-within l e)
     by (Field.End n) e = omega (arith, end-within l e)
+    by (Field.Cr n) e = omega (arith, cr-within l e)
     by Field.Open e = omega arith
     by Field.Bad e = omega arith

@@ -17,12 +17,13 @@ abbrev pub longerBy : ℕ → Field → Field
 longerBy n (Field.Comma k) = Field.Comma (n + k)
 longerBy n (Field.Line k) = Field.Line (n + k)
 longerBy n (Field.End k) = Field.End (n + k)
+longerBy n (Field.Cr k) = Field.Cr (n + k)
 longerBy n Field.Open = Field.Open
 longerBy n Field.Bad = Field.Bad
 
--- A field ends here. A comma, a CRLF or nothing stands behind it; "a bare CR or LF outside quotes" is bad.
+-- A field ends here. A comma, a CRLF, nothing, or a CR with nothing behind it stands behind it; "a bare CR or LF outside quotes" is bad.
 unfoldable pub afterCr : List ℕ → Field
-afterCr [] = Field.Open
+afterCr [] = Field.Cr 0
 afterCr (b ∷ l) = cond (eqb b lf) (Field.Line 0) Field.Bad
 
 unfoldable pub behind : List ℕ → Field
@@ -57,5 +58,6 @@ abbrev pub fieldLen : Field → ℕ
 fieldLen (Field.Comma n) = n
 fieldLen (Field.Line n) = n
 fieldLen (Field.End n) = n
+fieldLen (Field.Cr n) = n
 fieldLen Field.Open = 0
 fieldLen Field.Bad = 0

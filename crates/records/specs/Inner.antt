@@ -7,7 +7,7 @@ use Prim.Native.Nat.{ℕ, zero, suc, _+_, _≤_, _<_}
 use lib.ListN.{length, getD, drop}
 use Rattle.records.specs.Fields.{plain, quoted, scan, behind, longerBy, fieldAt, fieldLen}
 use Rattle.scans.specs.Ascii.{quote}
-use Rattle.records.specs.Rows.{lineEnd, fewBytes, mayGoOn, startAt, nthField}
+use Rattle.records.specs.Rows.{lineEnd, fewBytes, startAt, nthField}
 use Rattle.records.specs.declared.Field.{Field}
 use Rattle.records.specs.declared.Size.{Size}
 
@@ -28,18 +28,19 @@ pub record Closing (l : List ℕ) (at r : ℕ) : Type 0 where
   pub some : 1 ≤ r → scan quoted (drop at l) ≡ longerBy r (behind (drop (at + r) l))
   pub within : at + r ≤ length l
 
--- The size by counts alone: of a record of c fields and k bytes with a line end of e bytes, and of one that does not end in a text of n bytes.
+-- The size by counts alone: of a record of c fields and k bytes with a line end of e bytes, and of one that does not end in the text and has at least k bytes.
 abbrev pub closedSize : ℕ → ℕ → ℕ → Size
 closedSize c k e = cond (fewBytes k) (Size.Whole (record { fields = c; bytes = k + e })) Size.Bad
 
 abbrev pub unfinishedSize : ℕ → Size
-unfinishedSize n = cond (mayGoOn n) Size.More Size.Bad
+unfinishedSize k = cond (fewBytes k) Size.More Size.Bad
 
 -- The size of a record whose last field is this one: of c fields, with k bytes before it, in a text that has n bytes from the record on.
 abbrev pub endedBy : Bool → ℕ → ℕ → ℕ → Field → Size
 endedBy last n c k (Field.Line m) = closedSize c (k + m) lineEnd
-endedBy last n c k (Field.End m) = cond last (closedSize c (k + m) 0) (unfinishedSize n)
-endedBy last n c k Field.Open = cond last Size.Bad (unfinishedSize n)
+endedBy last n c k (Field.End m) = cond last (closedSize c (k + m) 0) (unfinishedSize (k + m))
+endedBy last n c k (Field.Cr m) = cond last Size.Bad (unfinishedSize (k + m))
+endedBy last n c k Field.Open = cond last Size.Bad (unfinishedSize (n + 1))
 endedBy last n c k (Field.Comma m) = Size.Bad
 endedBy last n c k Field.Bad = Size.Bad
 

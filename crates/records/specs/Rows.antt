@@ -4,7 +4,7 @@ use mathlib.Core.Path.{_≡_}
 use mathlib.Core.Bool.{Bool, cond}
 use mathlib.Core.List.{List, [], _∷_}
 use Prim.Native.Nat.{ℕ, zero, suc, _+_, _-_, min}
-use lib.Dec.{ltb, leb}
+use lib.Dec.{leb}
 use lib.ListN.{length, getD, take, drop}
 use Rattle.laws.specs.Over.{over}
 use Rattle.records.specs.Fields.{fieldAt, fieldLen}
@@ -23,10 +23,11 @@ abbrev pub lineEnd : ℕ
 lineEnd = 2
 
 -- Fields with commas between them: their bytes, quotes kept, and how many bytes they are together. A CRLF stands behind the last field, or
--- nothing; or the text ends within a field; or it is no row.
+-- nothing, or half of a CRLF, its CR with nothing behind it; or the text ends between quotes; or it is no row.
 pub data Row : Type 0 where
   line : List (List ℕ) → ℕ → Row
   bare : List (List ℕ) → ℕ → Row
+  halved : ℕ → Row
   cut : Row
   broken : Row
 
@@ -34,6 +35,7 @@ pub data Row : Type 0 where
 abbrev pub fieldBefore : List ℕ → ℕ → Row → Row
 fieldBefore f n (line fs k) = line (f ∷ fs) (n + 1 + k)
 fieldBefore f n (bare fs k) = bare (f ∷ fs) (n + 1 + k)
+fieldBefore f n (halved k) = halved (n + 1 + k)
 fieldBefore f n cut = cut
 fieldBefore f n broken = broken
 
@@ -42,6 +44,7 @@ abbrev pub rowFrom : (List ℕ → Row) → List ℕ → Field → Row
 rowFrom rest l (Field.Comma n) = fieldBefore (take n l) n (rest (drop (n + 1) l))
 rowFrom rest l (Field.Line n) = line (take n l ∷ []) n
 rowFrom rest l (Field.End n) = bare (take n l ∷ []) n
+rowFrom rest l (Field.Cr n) = halved n
 rowFrom rest l Field.Open = cut
 rowFrom rest l Field.Bad = broken
 
@@ -60,25 +63,21 @@ pub data Record : Type 0 where
 abbrev pub fewBytes : ℕ → Bool
 fewBytes k = leb k mostBytes
 
--- A record that does not end in a text of n bytes may still do so in a longer one. With 4,098 bytes, of which the last may be the CR, it is too
--- long already.
-abbrev pub mayGoOn : ℕ → Bool
-mayGoOn n = ltb n (mostBytes + lineEnd)
-
 -- A row of k bytes with a line end of e bytes behind it.
 abbrev pub closedBy : List (List ℕ) → ℕ → ℕ → Record
 closedBy fs k e = cond (fewBytes k) (whole fs (k + e)) bad
 
--- A text of n bytes ends before the record does.
+-- The text ends before the record does, which has at least k bytes before its line end. If these are too many, it is none, whatever comes.
 abbrev pub unfinished : ℕ → Record
-unfinished n = cond (mayGoOn n) more bad
+unfinished k = cond (fewBytes k) more bad
 
 -- What the row at the front of a text of n bytes is as a record. Behind the last text there is nothing: "the last record may have none", no
--- line end.
+-- line end. Between quotes at least one byte is to come, the closing quote.
 abbrev pub judged : Bool → ℕ → Row → Record
 judged last n (line fs k) = closedBy fs k lineEnd
-judged last n (bare fs k) = cond last (closedBy fs k 0) (unfinished n)
-judged last n cut = cond last bad (unfinished n)
+judged last n (bare fs k) = cond last (closedBy fs k 0) (unfinished k)
+judged last n (halved k) = cond last bad (unfinished k)
+judged last n cut = cond last bad (unfinished (n + 1))
 judged last n broken = bad
 
 -- The record at the front of a text, with at most so many fields.
@@ -96,6 +95,7 @@ abbrev pub endsBehind : (ℕ → List ℕ → List ℕ) → ℕ → List ℕ →
 endsBehind rest at l (Field.Comma n) = rest (at + n + 1) (drop (n + 1) l)
 endsBehind rest at l (Field.Line n) = []
 endsBehind rest at l (Field.End n) = []
+endsBehind rest at l (Field.Cr n) = []
 endsBehind rest at l Field.Open = []
 endsBehind rest at l Field.Bad = []
 

@@ -22,12 +22,13 @@ pub const MOST_FIELDS: usize = 256;
 // The bytes of a line end, a CRLF.
 pub const LINE_END: usize = 2;
 
-// What stands behind a field, and the field's bytes, its quotes among them: a comma; a CRLF; nothing. Open where the text ends between the
-// field's quotes or after the CR of its CRLF; Bad where it is no field of RFC 4180 with one of these behind it.
+// What stands behind a field, and the field's bytes, its quotes among them: a comma; a CRLF; nothing; a CR with nothing behind it. Open where the text ends
+// between the field's quotes; Bad where it is no field of RFC 4180 with one of these behind it.
 pub enum Field {
     Comma(usize),
     Line(usize),
     End(usize),
+    Cr(usize),
     Open,
     Bad,
 }
@@ -70,14 +71,16 @@ fn field_len(found: Field) -> usize
         Field::Comma(len) => len,
         Field::Line(len) => len,
         Field::End(len) => len,
+        Field::Cr(len) => len,
         Field::Open => 0,
         Field::Bad => 0,
     }
 }
 
-// Bad where no record stands at the place, or one with over `most` fields, with more than `ends` has room for, or with over 4,096 bytes before its line end;
-// More where the text ends before the record does and is not the last one; else how large the record is. From its front on, `ends` then holds where each
-// field ends that was read, up to one with no comma behind it; what is no field ends where it starts. The rest of `ends` is as it was.
+// Bad where no record stands at the place, or one with over `most` fields, with more than `ends` has room for, or with over 4,096 bytes before its line end,
+// those that must still come among them; More where the text ends before the record does and is not the last one; else how large the record is. From its
+// front on, `ends` then holds where each field ends that was read, up to one with no comma behind it; what is no field ends where it starts. The rest of
+// `ends` is as it was.
 pub fn read_row(text: &[u8], at: usize, last: bool, most: usize, ends: &mut [usize]) -> Size
     ensures { λ r. ⌜ RowSays (now (text .entry)) at last most (now (ends .entry)) r (now (ends .exit)) ⌝ }
 {
@@ -158,9 +161,14 @@ fn ended(found: Field, last: bool, left: usize, fields: usize, before: usize) ->
         Field::End(len) => if last {
             closed(fields, before, len, 0)
         } else {
-            unfinished(left)
+            unfinished(before, len)
         },
-        Field::Open => if last { Size::Bad } else { unfinished(left) },
+        Field::Cr(len) => if last {
+            Size::Bad
+        } else {
+            unfinished(before, len)
+        },
+        Field::Open => if last { Size::Bad } else { unfinished(left, 1) },
         Field::Comma(_) => Size::Bad,
         Field::Bad => Size::Bad,
     }
@@ -183,15 +191,17 @@ fn closed(fields: usize, before: usize, len: usize, end: usize) -> Size
     })
 }
 
-// Whether a record that does not end in a text of so many bytes may do so in a longer one.
-fn unfinished(left: usize) -> Size
-    ensures { λ r. ⌜ r ≡ unfinishedSize left ⌝ }
+// The size of a record that does not end in the text: at least `before` and `len` bytes of it stand before its line end.
+fn unfinished(before: usize, len: usize) -> Size
+    ensures { λ r. ⌜ r ≡ unfinishedSize (before + len) ⌝ }
 {
-    if left < MOST_BYTES + LINE_END {
-        Size::More
-    } else {
-        Size::Bad
+    if MOST_BYTES < before {
+        return Size::Bad;
     }
+    if MOST_BYTES - before < len {
+        return Size::Bad;
+    }
+    Size::More
 }
 
 // What stands behind a field of so many bytes.
@@ -210,7 +220,7 @@ fn behind_field(text: &[u8], at: usize, len: usize) -> Field
         return Field::Bad;
     }
     if text.len() <= end + 1 {
-        return Field::Open;
+        return Field::Cr(len);
     }
     if text[end + 1] == LF {
         Field::Line(len)

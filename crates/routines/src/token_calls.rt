@@ -73,7 +73,8 @@ fn field(read: Field) -> Answer {
         Field::Comma(len) => one(0, len as u64),
         Field::Line(len) => one(1, len as u64),
         Field::End(len) => one(2, len as u64),
-        Field::Open => none(3),
-        Field::Bad => none(4),
+        Field::Cr(len) => one(3, len as u64),
+        Field::Open => none(4),
+        Field::Bad => none(5),
     }
 }

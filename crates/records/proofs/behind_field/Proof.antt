@@ -1,6 +1,6 @@
 -- `behind_field` meets its contract, by what stands behind the field. Assumes nothing.
 use borrow.Author.Needs.{needs}
-use Rattle.records.proofs.Steps.{found-end, found-comma, found-bad, found-open, found-line, found-cr}
+use Rattle.records.proofs.Steps.{found-end, found-comma, found-bad, found-cr, found-line, found-cr-bad}
 use Rattle.records.proofs.behind_field.Statement.{statement}
 use Rattle.records.proofs.behind_field.Tie as tie
 
@@ -26,7 +26,7 @@ add-if4 : tie.Need-add-if4
 add-if4 c = search needs
 
 returns-4 : tie.Need-returns-4
-returns-4 c = search (found-open, needs)
+returns-4 c = search (found-cr, needs)
 
 add-if5 : tie.Need-add-if5
 add-if5 c = search needs
@@ -38,7 +38,7 @@ returns-5 : tie.Need-returns-5
 returns-5 c = search (found-line, needs)
 
 returns-6 : tie.Need-returns-6
-returns-6 c = search (found-cr, needs)
+returns-6 c = search (found-cr-bad, needs)
 
 pub behind-field-spec : {M : Type 1} → statement M
 behind-field-spec =
