@@ -16,7 +16,7 @@ use Rattle.laws.proofs.Buffers.{over-inside}
 use Rattle.laws.proofs.Over.{over-length}
 use Rattle.records.specs.Fields.{fieldAt, fieldLen}
 use Rattle.records.specs.Rows.{Row, line, bare, halved, cut, broken, fieldBefore, rowFrom, rowOf}
-use Rattle.records.specs.Rows.{Record, whole, more, bad, fewBytes, judged, recordAt, sizeOf, endsBehind, endsOf, RowSays}
+use Rattle.records.specs.Rows.{Record, whole, more, bad, lineEnd, fewBytes, closedBy, judged, recordAt, sizeOf, endsBehind, endsOf, RowSays}
 use Rattle.records.specs.Rows.{partOf, startAt, nthField}
 use Rattle.records.specs.Inner.{FieldSpan, FieldSpans, fieldsTo}
 use Rattle.records.specs.declared.Extent.{Extent}
@@ -187,28 +187,24 @@ not-whole true e = let z : _≡_ {A = ℕ} 0 1 = cc in omega arith
 not-whole false e = let z : _≡_ {A = ℕ} 0 1 = cc in omega arith
 
 module _ (l : List ℕ) (at : ℕ) (h : at ≤ length l) (es : List ℕ) where
+  -- A row of k bytes as a whole record, with a line end of so many bytes.
+  closed-by : (gs : List (List ℕ)) (k end : ℕ) → RowBy l at es gs k → {fs : List (List ℕ)} {u : ℕ} → closedBy gs k end ≡ whole fs u
+      → (at + (k + end) < length l → 2 ≤ end) → WholeBy l at es fs u
+  closed-by gs k end p {fs} {u} e more-text =
+      let c = closed-whole (fewBytes k) e in
+      subst (λ (x : List (List ℕ)). WholeBy l at es x u) (c .0)
+      (record {
+        by-ends = p .laid;
+        count = p .count;
+        far = omega (arith, p .last);
+        least = omega (arith, p .last, c .1);
+        line = λ g. let two = more-text (omega (arith, c .1)) in omega (arith, p .last, c .1);
+      })
+
   whole-by : (last : Bool) (r : Row) → RowLies (length (drop at l)) r → RowLaid l at es r → {fs : List (List ℕ)} {u : ℕ}
       → judged last (length (drop at l)) r ≡ whole fs u → WholeBy l at es fs u
-  whole-by last (line gs k) lies p {fs} {u} e =
-      let c = closed-whole (fewBytes k) e in
-      subst (λ (x : List (List ℕ)). WholeBy l at es x u) (c .0)
-      (record {
-        by-ends = p .laid;
-        count = p .count;
-        far = omega (arith, p .last);
-        least = omega (arith, p .last, c .1);
-        line = λ g. omega (arith, p .last, c .1);
-      })
-  whole-by true (bare gs k) lies p {fs} {u} e =
-      let c = closed-whole (fewBytes k) e in
-      subst (λ (x : List (List ℕ)). WholeBy l at es x u) (c .0)
-      (record {
-        by-ends = p .laid;
-        count = p .count;
-        far = omega (arith, p .last);
-        least = omega (arith, p .last, c .1);
-        line = λ g. absurd (omega (arith, lies .0, c .1, length-drop at l));
-      })
+  whole-by last (line gs k) lies p e = closed-by gs k lineEnd p e (λ g. omega arith)
+  whole-by true (bare gs k) lies p e = closed-by gs k 0 p e (λ g. absurd (omega (arith, lies .0, length-drop at l)))
   whole-by false (bare gs k) lies p e = absurd (not-whole (fewBytes k) e)
   whole-by true (halved k) lies p e = absurd (not-whole false e)
   whole-by false (halved k) lies p e = absurd (not-whole (fewBytes k) e)

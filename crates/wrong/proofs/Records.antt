@@ -22,6 +22,15 @@ pub read-field-ends-a-line-at-a-bare-cr : Field.Line 1 ≡ fieldAt (drop 0 (97 �
 unfolding scan behind afterCr plainByte
 read-field-ends-a-line-at-a-bare-cr e = let f : Field.Line 1 ≡ Field.Bad = e in let z : _≡_ {A = ℕ} 0 1 = cc in omega arith
 
+-- "a" and a CR at the text's end: no quote is open, and the record waits for its LF.
+pub read-field-is-open-of-a-cr : Field.Open ≡ fieldAt (drop 0 (97 ∷ 13 ∷ [])) → ⊥
+unfolding scan behind afterCr plainByte
+read-field-is-open-of-a-cr e = let f : Field.Open ≡ Field.Cr 1 = e in let z : _≡_ {A = ℕ} 0 1 = cc in omega arith
+
+pub read-row-is-bad-before-its-lf : (d : List ℕ) → RowSays (97 ∷ 13 ∷ []) 0 false 1 (0 ∷ []) Size.Bad d → ⊥
+unfolding recordAt rowOf scan behind afterCr plainByte
+read-row-is-bad-before-its-lf d x = let f : Size.Bad ≡ Size.More = x .size in let z : _≡_ {A = ℕ} 0 1 = cc in omega arith
+
 -- "a" and CRLF, one field: the record is whole.
 abbrev row : List ℕ
 row = 97 ∷ 13 ∷ 10 ∷ []

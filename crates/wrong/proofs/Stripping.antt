@@ -9,7 +9,7 @@ use Rattle.refusals.specs.declared.Fault.{Fault}
 use Rattle.records.specs.Fields.{plainByte, afterCr, behind, scan}
 use Rattle.records.specs.Rows.{rowOf, recordAt}
 use Rattle.exports.specs.Rows.{takenFrom}
-use Rattle.exports.specs.Text.{keptOf, commaed, withCommas, recordLines}
+use Rattle.exports.specs.Text.{keptOf, commaed, withCommas, recordLines, HeldBackApart}
 use Rattle.stripping.specs.declared.Stripped.{Stripped}
 use Rattle.stripping.specs.Stripping.{saidCut, saidStripped, stripAnswer, StripSays}
 
@@ -36,3 +36,14 @@ strip-refuses-an-unfinished-record d x =
     let f : saidStripped (Stripped.Refused (record { fault = Fault.CsvSyntax; place = 1 })) ≡ saidCut 0 0 0 = x .answer in
     let z : _≡_ {A = ℕ} 0 1 = cc in
     omega arith
+
+-- Exports that differ in a column that is kept do not "differ only in columns held back", nor do those of which one has a record more.
+pub a-kept-field-differs : HeldBackApart kept kept (((97 ∷ []) ∷ []) ∷ []) (((98 ∷ []) ∷ []) ∷ []) → ⊥
+unfolding keptOf
+a-kept-field-differs x =
+    let e : _≡_ {A = List (List ℕ)} ((97 ∷ []) ∷ []) ((98 ∷ []) ∷ []) = x .same 0 (omega arith) in
+    let z : _≡_ {A = ℕ} 97 98 = cc in
+    omega arith
+
+pub a-record-is-missing : HeldBackApart kept kept (((97 ∷ []) ∷ []) ∷ []) [] → ⊥
+a-record-is-missing x = omega (arith, x .count)
