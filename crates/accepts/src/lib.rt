@@ -3,8 +3,8 @@
 // Nothing here refuses. A test answers no.
 ghost use Rattle.std.specs.Prelude.{◌≤◌, ◌<◌};
 ghost use Rattle.laws.specs.Tells.{Tells};
-ghost use Rattle.refusals.specs.Sizes.{mostLeft};
-ghost use Rattle.rules.specs.Table.{ruleAt};
+ghost use Rattle.refusals.specs.Sizes.{most_left};
+ghost use Rattle.rules.specs.Table.{rule_at};
 ghost use Rattle.accepts.specs.Accepted.{PlaceAccepted, LeftAccepted, RuleAccepted, Standing, TableAccepted};
 
 use classes::TOP_LEVEL;
@@ -13,7 +13,7 @@ use rules::{CAP, FLOOR, FOLLOW, Head, Rule, WORDS, rule_at};
 
 // Whether place k of the left side of a rule is right in a book of n items.
 fn place_ok(rule: Rule, n: u64, k: usize) -> bool
-    requires { (k < mostLeft) × (rule.count ≤ mostLeft) }
+    requires { (k < most_left) × (rule.count ≤ most_left) }
     ensures { Tells (PlaceAccepted n rule k) result }
 {
     let item = rule.left[k];
@@ -84,7 +84,7 @@ pub fn rule_ok(rule: Rule, n: u64) -> bool
 // Whether rule r of a table is accepted under this head, and not out of order.
 fn standing(rules: &[u64], head: Head, r: usize) -> bool
     requires { r < head.rules }
-    ensures { Tells (Standing head (ruleAt rules.now) r) result }
+    ensures { Tells (Standing head (rule_at rules.now) r) result }
 {
     let rule = rule_at(rules, r);
     if !rule_ok(rule, head.items as u64) {

@@ -6,34 +6,34 @@ use mathlib.Core.Path.{refl, sym, subst}
 use mathlib.Core.List.{List, [], ◌∷◌}
 use Prim.Native.Nat.{ℕ, ◌<◌}
 use lib.ListN.{length, take}
-use Rattle.laws.proofs.Buffers.{front-over}
+use Rattle.laws.proofs.Buffers.{front_over}
 use Rattle.classes.specs.Parts.{part_count}
 use Rattle.meaning.specs.Classes.{ClassesAgree}
-use Rattle.meaning.proofs.Demands.{one-part-alone}
+use Rattle.meaning.proofs.Demands.{one_part_alone}
 use Rattle.refusals.specs.Said.{Said, success, refused}
-use Rattle.labels.specs.Labels.{labelsIn}
+use Rattle.labels.specs.Labels.{labels_in}
 use Rattle.rules.specs.declared.Head.{Head}
 use Rattle.rules.proofs.Agreeing.{tables_agree}
-use Rattle.accepts.proofs.Inside.{table-inside}
+use Rattle.accepts.proofs.Inside.{table_inside}
 use Rattle.reader.specs.Agreeing.{TextsAgree}
-use Rattle.reader.proofs.Agreeing.{texts-agree}
-use Rattle.reader.proofs.Books.{read-tables}
-use Rattle.writer.specs.Writing.{saidWritten}
+use Rattle.reader.proofs.Agreeing.{texts_agree}
+use Rattle.reader.proofs.Books.{read_tables}
+use Rattle.writer.specs.Writing.{said_written}
 use Rattle.writer.specs.declared.Written.{Written}
-use Rattle.answers.specs.Answering.{noLabelling, unlabelled, labelled, AnswerSays, unread, book, PrintsLabels, Printed, refusal, labelling, RoutineSays, no_room, written}
+use Rattle.answers.specs.Answering.{no_labelling, unlabelled, labelled, AnswerSays, unread, book, PrintsLabels, Printed, refusal, labelling, RoutineSays, no_room, written}
 
-pub answer-one-part-alone : {l m x y : List ℕ} {h k : Head} {levels marks levels' marks' : List ℕ} {p : ℕ} → p < part_count → TextsAgree p l m
+pub answer_one_part_alone : {l m x y : List ℕ} {h k : Head} {levels marks levels' marks' : List ℕ} {p : ℕ} → p < part_count → TextsAgree p l m
     → PrintsLabels l x h levels marks → PrintsLabels m y k levels' marks'
-    → (i : ℕ) → i < h.items → ClassesAgree p (labelsIn levels marks i) (labelsIn levels' marks' i)
-answer-one-part-alone {l} {m} isPart agree a b =
-    one-part-alone (table-inside (read-tables l a.whole).rules) (table-inside (read-tables m b.whole).rules) isPart
-    (tables_agree (texts-agree agree a.whole b.whole)) a.wanted b.wanted
+    → (i : ℕ) → i < h.items → ClassesAgree p (labels_in levels marks i) (labels_in levels' marks' i)
+answer_one_part_alone {l} {m} is_part agree a b =
+    one_part_alone (table_inside (read_tables l a.whole).rules) (table_inside (read_tables m b.whole).rules) is_part
+    (tables_agree (texts_agree agree a.whole b.whole)) a.wanted b.wanted
 
 -- What is printed is labels or a refusal.
-pub answer-printed : {l x : List ℕ} → AnswerSays l x → Printed l x
-answer-printed (unread {r} e) = refusal r refl
-answer-printed (book e (unlabelled {p} x)) = refusal (noLabelling p) refl
-answer-printed (book {h} e (labelled levels marks x)) = labelling h levels marks (record { whole = e; wanted = x; text = refl })
+pub answer_printed : {l x : List ℕ} → AnswerSays l x → Printed l x
+answer_printed (unread {r} e) = refusal r refl
+answer_printed (book e (unlabelled {p} x)) = refusal (no_labelling p) refl
+answer_printed (book {h} e (labelled levels marks x)) = labelling h levels marks (record { whole = e; wanted = x; text = refl })
 
 -- What the routine writes is that text.
 abbrev Wrote : List ℕ → Said → List ℕ → Type 0
@@ -43,7 +43,7 @@ Wrote l (refused n p) out' = Unit
 
 wrote : {l out : List ℕ} {s : Said} {out' : List ℕ} → RoutineSays l out s out' → Wrote l s out'
 wrote (no_room a s) = tt
-wrote {l} {out} (written {x} a s) = subst (AnswerSays l) (sym (front-over out x (length x) refl s)) a
+wrote {l} {out} (written {x} a s) = subst (AnswerSays l) (sym (front_over out x (length x) refl s)) a
 
-pub written-printed : {l out out' : List ℕ} {n : ℕ} → RoutineSays l out (saidWritten (Written.Text n)) out' → Printed l (take n out')
-written-printed says = answer-printed (wrote says)
+pub written_printed : {l out out' : List ℕ} {n : ℕ} → RoutineSays l out (said_written (Written.Text n)) out' → Printed l (take n out')
+written_printed says = answer_printed (wrote says)

@@ -1,8 +1,8 @@
 // The answer to a whole text: a rulebook goes in as text, and its labels or its refusal come out as text.
 ghost use Rattle.puts.specs.InnerGrowing.{Grown, Front};
-ghost use Rattle.writer.specs.Texts.{labelsText};
-ghost use Rattle.writer.specs.Writing.{saidWritten};
-ghost use Rattle.answers.specs.Answering.{countLine, refusalText, AnswerSays, RoutineSays};
+ghost use Rattle.writer.specs.Texts.{labels_text};
+ghost use Rattle.writer.specs.Writing.{said_written};
+ghost use Rattle.answers.specs.Answering.{count_line, refusal_text, AnswerSays, RoutineSays};
 ghost use Rattle.answers.specs.Inner.{Whole, PrintReady, FrontWith};
 
 use assign::{Assigned, assign};
@@ -13,7 +13,7 @@ use writer::{Written, write_labels};
 
 // What the labelling program prints for a text, at the front of `out`, and its length; NoRoom at 0 where `out` is shorter than that.
 pub fn answer(text: &[u8], out: &mut [u8]) -> Written
-    ensures { RoutineSays text.now out.old (saidWritten result) out.new }
+    ensures { RoutineSays text.now out.old (said_written result) out.new }
 {
     let mut made = [0; MOST_TEXT];
     let len = make(text, &mut made);
@@ -44,7 +44,7 @@ fn make(text: &[u8], out: &mut [u8]) -> usize
 // Makes the text of labels that are right.
 fn labels_text(items: &[u8], n: usize, levels: &[u64], marks: &[u64], out: &mut [u8]) -> usize
     requires { PrintReady items.now n levels.now marks.now out.old }
-    ensures { Front (labelsText items.now n levels.now marks.now) out.new result }
+    ensures { Front (labels_text items.now n levels.now marks.now) out.new result }
 {
     match write_labels(items, n, levels, marks, out) {
         Written::Text(len) => len,
@@ -55,7 +55,7 @@ fn labels_text(items: &[u8], n: usize, levels: &[u64], marks: &[u64], out: &mut 
 // Makes the text of a refusal.
 fn refusal_text(refusal: Refusal, out: &mut [u8]) -> usize
     requires { Whole out.old }
-    ensures { Front (refusalText refusal) out.new result }
+    ensures { Front (refusal_text refusal) out.new result }
 {
     let fault = refusal.fault;
     let number = fault_number(fault);
@@ -67,7 +67,7 @@ fn refusal_text(refusal: Refusal, out: &mut [u8]) -> usize
 
 // Puts a line of a key, with its `=`, and a count.
 fn count_line(key: &[u8], n: u64, out: &mut [u8], at: usize) -> usize
-    ensures { Grown out.old at (countLine key.now n) out.new result }
+    ensures { Grown out.old at (count_line key.now n) out.new result }
 {
     let count = put(key, out, at);
     let lf = put_count(n, out, count);

@@ -10,69 +10,69 @@ use lib.Seq.{length-take-le}
 use Rattle.laws.specs.Over.{over}
 use Rattle.refusals.specs.declared.Fault.{Fault}
 use Rattle.refusals.specs.declared.Refusal.{Refusal}
-use Rattle.refusals.specs.Sizes.{mostItems, mostRules}
-use Rattle.refusals.specs.Said.{Said, refusedBy, saidRefusal}
-use Rattle.items.specs.Names.{nameRoom}
+use Rattle.refusals.specs.Sizes.{most_items, most_rules}
+use Rattle.refusals.specs.Said.{Said, refused_by, said_refusal}
+use Rattle.items.specs.Names.{name_room}
 use Rattle.rules.specs.declared.Head.{Head}
-use Rattle.rules.specs.Table.{ruleWords}
+use Rattle.rules.specs.Table.{rule_words}
 use Rattle.accepts.specs.Tables.{Tables, SameTables}
-use Rattle.accepts.proofs.Counted.{tables-counted}
+use Rattle.accepts.proofs.Counted.{tables_counted}
 use Rattle.puts.specs.Writing.{Put}
-use Rattle.puts.proofs.Placed.{put-buffer}
+use Rattle.puts.proofs.Placed.{put_buffer}
 use Rattle.reader.specs.declared.ReadBook.{ReadBook}
-use Rattle.reader.specs.Reading.{saidRead, ReadSays}
-use Rattle.reader.proofs.Books.{answer-whole, tables-read, read-tables}
+use Rattle.reader.specs.Reading.{said_read, ReadSays}
+use Rattle.reader.proofs.Books.{answer_whole, tables_read, read_tables}
 use Rattle.solver.specs.declared.Solved.{Solved}
-use Rattle.solver.specs.Solving.{saidSolved, held, SolveSays}
+use Rattle.solver.specs.Solving.{said_solved, held, SolveSays}
 use Rattle.solver.proofs.Counted.{solve-counted}
 use Rattle.assign.specs.declared.Assigned.{Assigned}
-use Rattle.assign.specs.Assigning.{saidHead, saidAssigned, Lent, lent, itemsOver, BookSays, short-items, unsolved, solved, AssignSays, unread, read}
+use Rattle.assign.specs.Assigning.{said_head, said_assigned, Lent, lent, items_over, BookSays, short_items, unsolved, solved, AssignSays, unread, read}
 
 -- Of tables that are equal up to their counts the same is said.
-book-moved : {h : Head} {t w t' w' : List ℕ} {before after : Lent} {s : Said} → SameTables h t w t' w' → BookSays h t' w' before s after
+book_moved : {h : Head} {t w t' w' : List ℕ} {before after : Lent} {s : Said} → SameTables h t w t' w' → BookSays h t' w' before s after
     → BookSays h t w before s after
-book-moved same (short-items x) = short-items x
-book-moved {h} {w = w} {w' = w'} same (unsolved room x) = unsolved room (solve-counted h w' w (sym same.rules) x)
-book-moved {h} {t} {w} {w' = w'} {before = before} same (solved {k} {labels} room x) =
-    subst (λ (y : List ℕ). BookSays h t w before (saidHead h) (lent (over before.items 0 y) labels)) same.items
+book_moved same (short_items x) = short_items x
+book_moved {h} {w = w} {w' = w'} same (unsolved room x) = unsolved room (solve-counted h w' w (sym same.rules) x)
+book_moved {h} {t} {w} {w' = w'} {before = before} same (solved {k} {labels} room x) =
+    subst (λ (y : List ℕ). BookSays h t w before (said_head h) (lent (over before.items 0 y) labels)) same.items
     (solved room (solve-counted h w' w (sym same.rules) x))
 
 -- The answers to a book whose tables are right.
 module _ {h : Head} {names rules items levels marks : List ℕ} where
-  pub says-short : length items < h.items * nameRoom
-      → BookSays h names rules (lent items (held levels marks)) (refusedBy Fault.NoRoom 0) (lent items (held levels marks))
-  says-short s = short-items s
+  pub says_short : length items < h.items * name_room
+      → BookSays h names rules (lent items (held levels marks)) (refused_by Fault.NoRoom 0) (lent items (held levels marks))
+  says_short s = short_items s
 
   module _ (tables : Tables h names rules) {answer : Solved} {levels' marks' : List ℕ}
-      (says : SolveSays h rules (held levels marks) (saidSolved answer) (held levels' marks')) (room : h.items * nameRoom ≤ length items) where
-    pub says-refused : {r : Refusal} → answer ≡ Solved.Refused r
-        → BookSays h names rules (lent items (held levels marks)) (saidRefusal r) (lent items (held levels' marks'))
-    says-refused e = unsolved room (subst (λ (x : Solved). SolveSays h rules (held levels marks) (saidSolved x) (held levels' marks')) e says)
+      (says : SolveSays h rules (held levels marks) (said_solved answer) (held levels' marks')) (room : h.items * name_room ≤ length items) where
+    pub says_refused : {r : Refusal} → answer ≡ Solved.Refused r
+        → BookSays h names rules (lent items (held levels marks)) (said_refusal r) (lent items (held levels' marks'))
+    says_refused e = unsolved room (subst (λ (x : Solved). SolveSays h rules (held levels marks) (said_solved x) (held levels' marks')) e says)
 
-    pub says-labelled : {k : ℕ} → answer ≡ Solved.Labelled k → {items' : List ℕ} {next : ℕ} → Put items 0 (take (h.items * nameRoom - 0) (drop 0 names)) items' next
-        → BookSays h names rules (lent items (held levels marks)) (saidAssigned (Assigned.Labelled h)) (lent items' (held levels' marks'))
-    says-labelled e {items'} p =
-        subst (λ (y : List ℕ). BookSays h names rules (lent items (held levels marks)) (saidAssigned (Assigned.Labelled h)) (lent y (held levels' marks'))) (sym put)
-        (solved room (subst (λ (x : Solved). SolveSays h rules (held levels marks) (saidSolved x) (held levels' marks')) e says))
+    pub says_labelled : {k : ℕ} → answer ≡ Solved.Labelled k → {items' : List ℕ} {next : ℕ} → Put items 0 (take (h.items * name_room - 0) (drop 0 names)) items' next
+        → BookSays h names rules (lent items (held levels marks)) (said_assigned (Assigned.Labelled h)) (lent items' (held levels' marks'))
+    says_labelled e {items'} p =
+        subst (λ (y : List ℕ). BookSays h names rules (lent items (held levels marks)) (said_assigned (Assigned.Labelled h)) (lent y (held levels' marks'))) (sym put)
+        (solved room (subst (λ (x : Solved). SolveSays h rules (held levels marks) (said_solved x) (held levels' marks')) e says))
       where
-        fits : 0 + length (take (h.items * nameRoom) names) ≤ length items
-        fits = omega (arith, length-take-le (h.items * nameRoom) names tables.items.room)
+        fits : 0 + length (take (h.items * name_room) names) ≤ length items
+        fits = omega (arith, length-take-le (h.items * name_room) names tables.items.room)
 
-        put : items' ≡ itemsOver h names items
-        put = put-buffer (rw sub-zero at p) fits
+        put : items' ≡ items_over h names items
+        put = put_buffer (rw sub-zero at p) fits
 
 -- The names of the items lie within a right table.
-pub names-within : {h : Head} {names rules : List ℕ} → Tables h names rules → h.items * nameRoom ≤ length names
-names-within tables = tables.items.room
+pub names_within : {h : Head} {names rules : List ℕ} → Tables h names rules → h.items * name_room ≤ length names
+names_within tables = tables.items.room
 
 -- The answers to a text that was read into tables with room for every book.
-module _ {l names rules : List ℕ} {answer : ReadBook} {names' rules' : List ℕ} (says : ReadSays l names rules (saidRead answer) names' rules')
-    (bytes : length names ≡ mostItems * nameRoom) (words : length rules ≡ mostRules * ruleWords) where
-  pub says-unread : {r : Refusal} {before : Lent} → answer ≡ ReadBook.Refused r → AssignSays l before (saidRefusal r) before
-  says-unread e = unread (answer-whole says bytes words e)
+module _ {l names rules : List ℕ} {answer : ReadBook} {names' rules' : List ℕ} (says : ReadSays l names rules (said_read answer) names' rules')
+    (bytes : length names ≡ most_items * name_room) (words : length rules ≡ most_rules * rule_words) where
+  pub says_unread : {r : Refusal} {before : Lent} → answer ≡ ReadBook.Refused r → AssignSays l before (said_refusal r) before
+  says_unread e = unread (answer_whole says bytes words e)
 
-  pub says-read : {h : Head} → answer ≡ ReadBook.Book h → {before after : Lent} {s : Said} → BookSays h names' rules' before s after → AssignSays l before s after
-  says-read e x = let whole = answer-whole says bytes words e in read whole (book-moved (tables-read says e) x)
+  pub says_read : {h : Head} → answer ≡ ReadBook.Book h → {before after : Lent} {s : Said} → BookSays h names' rules' before s after → AssignSays l before s after
+  says_read e x = let whole = answer_whole says bytes words e in read whole (book_moved (tables_read says e) x)
 
-  pub tables-right : {h : Head} → answer ≡ ReadBook.Book h → Tables h names' rules'
-  tables-right e = tables-counted (tables-read says e) (read-tables l (answer-whole says bytes words e))
+  pub tables_right : {h : Head} → answer ≡ ReadBook.Book h → Tables h names' rules'
+  tables_right e = tables_counted (tables_read says e) (read_tables l (answer_whole says bytes words e))

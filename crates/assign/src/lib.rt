@@ -1,7 +1,7 @@
 // From the text of a rulebook to its items and their labels, once for everyone who needs them.
 ghost use Rattle.solver.specs.Solving.{held};
 ghost use Rattle.accepts.specs.Tables.{Tables};
-ghost use Rattle.assign.specs.Assigning.{lent, saidAssigned, BookSays, AssignSays};
+ghost use Rattle.assign.specs.Assigning.{lent, said_assigned, BookSays, AssignSays};
 
 use items::NAME_ROOM;
 use puts::put;
@@ -11,7 +11,7 @@ use rules::Head;
 use solver::{Solved, solve};
 
 // What assigning answers: the head of the book whose items and labels were written, or a refusal.
-#[derive(Drop)]
+#[derive(Clone, Copy)]
 pub enum Assigned {
     Labelled(Head),
     Refused(Refusal),
@@ -21,7 +21,7 @@ pub enum Assigned {
 // lowest part that has no labelling. A refusal leaves the three buffers as they were. Else the names of the items and their wanted labels are written from
 // the front of the buffers, and the rest of each is left.
 pub fn assign(text: &[u8], items: &mut [u8], levels: &mut [u64], marks: &mut [u64]) -> Assigned
-    ensures { AssignSays text.now (lent items.old (held levels.old marks.old)) (saidAssigned result) (lent items.new (held levels.new marks.new)) }
+    ensures { AssignSays text.now (lent items.old (held levels.old marks.old)) (said_assigned result) (lent items.new (held levels.new marks.new)) }
 {
     let mut names = [0u8; items::WHOLE_TABLE];
     let mut rules = [0u64; rules::WHOLE_TABLE];
@@ -41,7 +41,7 @@ fn label(
     marks: &mut [u64],
 ) -> Assigned
     requires { Tables head names.now rules.now }
-    ensures { BookSays head names.now rules.now (lent items.old (held levels.old marks.old)) (saidAssigned result) (lent items.new (held levels.new marks.new)) }
+    ensures { BookSays head names.now rules.now (lent items.old (held levels.old marks.old)) (said_assigned result) (lent items.new (held levels.new marks.new)) }
 {
     let bytes = head.items * NAME_ROOM;
     if items.len() < bytes {

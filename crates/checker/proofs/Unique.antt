@@ -5,57 +5,57 @@ use mathlib.Core.Path.{◌≡◌, refl, ap}
 use mathlib.Core.List.{List, [], ◌∷◌}
 use Prim.Native.Nat.{ℕ, zero, suc}
 use lib.ListN.{get_or}
-use Rattle.laws.proofs.First.{first-not-all, first-unique}
+use Rattle.laws.proofs.First.{first_not_all, first_unique}
 use Rattle.refusals.specs.declared.Fault.{Fault}
-use Rattle.refusals.specs.Said.{Said, success, refused, refusedBy}
-use Rattle.refusals.proofs.Said.{said-injective, refusalOf, refusal-back}
+use Rattle.refusals.specs.Said.{Said, success, refused, refused_by}
+use Rattle.refusals.proofs.Said.{said_injective, refusal_of, refusal_back}
 use Rattle.rules.specs.declared.Head.{Head}
 use Rattle.rules.specs.declared.Rule.{Rule}
 use Rattle.checker.specs.declared.Checked.{Checked}
 use Rattle.checker.specs.declared.Checked.TheVariants.{Met, Unmet, Refused}
-use Rattle.checker.specs.Answer.{saidChecked}
-use Rattle.checker.specs.Checking.{CheckSays, bad-table, no_room, bad-label, first-unmet, all-met}
+use Rattle.checker.specs.Answer.{said_checked}
+use Rattle.checker.specs.Checking.{CheckSays, bad_table, no_room, bad_label, first_unmet, all_met}
 
 -- An answer is found again from what it says.
-abbrev checkedOf : Said → Checked
-checkedOf (success zero vs) = Met
-checkedOf (success (suc k) vs) = Unmet (get_or vs 0 0)
-checkedOf (refused k p) = Refused (refusalOf k p)
+abbrev checked_of : Said → Checked
+checked_of (success zero vs) = Met
+checked_of (success (suc k) vs) = Unmet (get_or vs 0 0)
+checked_of (refused k p) = Refused (refusal_of k p)
 
-checked-back : (a : Checked) → checkedOf (saidChecked a) ≡ a
-checked-back Met = refl
-checked-back (Unmet r) = refl
-checked-back (Refused r) = ap Refused (refusal-back r)
+checked_back : (a : Checked) → checked_of (said_checked a) ≡ a
+checked_back Met = refl
+checked_back (Unmet r) = refl
+checked_back (Refused r) = ap Refused (refusal_back r)
 
 module _ {Accepted : Type 0} {h : Head} {at : ℕ → Rule} {levels marks : List ℕ} where
   -- Of any rules and labels only one thing is said.
-  pub says-unique : {a b : Said} → CheckSays Accepted h at levels marks a → CheckSays Accepted h at levels marks b → a ≡ b
-  says-unique (bad-table x) (bad-table y) = refl
-  says-unique (bad-table x) (no_room y) = absurd (x y.accepted)
-  says-unique (bad-table x) (bad-label y) = absurd (x y.accepted)
-  says-unique (bad-table x) (first-unmet y) = absurd (x y.accepted)
-  says-unique (bad-table x) (all-met y) = absurd (x y.accepted)
-  says-unique (no_room x) (bad-table y) = absurd (y x.accepted)
-  says-unique (no_room x) (no_room y) = refl
-  says-unique (no_room x) (bad-label y) = absurd (x.short y.room)
-  says-unique (no_room x) (first-unmet y) = absurd (x.short y.room)
-  says-unique (no_room x) (all-met y) = absurd (x.short y.room)
-  says-unique (bad-label x) (bad-table y) = absurd (y x.accepted)
-  says-unique (bad-label x) (no_room y) = absurd (y.short x.room)
-  says-unique (bad-label x) (bad-label y) = ap (refusedBy Fault.BadLabel) (first-unique x.label y.label)
-  says-unique (bad-label x) (first-unmet y) = absurd (first-not-all x.label y.labels)
-  says-unique (bad-label x) (all-met y) = absurd (first-not-all x.label y.labels)
-  says-unique (first-unmet x) (bad-table y) = absurd (y x.accepted)
-  says-unique (first-unmet x) (no_room y) = absurd (y.short x.room)
-  says-unique (first-unmet x) (bad-label y) = absurd (first-not-all y.label x.labels)
-  says-unique (first-unmet x) (first-unmet y) = ap (λ r. success 1 (r ∷ [])) (first-unique x.rule y.rule)
-  says-unique (first-unmet x) (all-met y) = absurd (first-not-all x.rule y.rules)
-  says-unique (all-met x) (bad-table y) = absurd (y x.accepted)
-  says-unique (all-met x) (no_room y) = absurd (y.short x.room)
-  says-unique (all-met x) (bad-label y) = absurd (first-not-all y.label x.labels)
-  says-unique (all-met x) (first-unmet y) = absurd (first-not-all y.rule x.rules)
-  says-unique (all-met x) (all-met y) = refl
+  pub says_unique : {a b : Said} → CheckSays Accepted h at levels marks a → CheckSays Accepted h at levels marks b → a ≡ b
+  says_unique (bad_table x) (bad_table y) = refl
+  says_unique (bad_table x) (no_room y) = absurd (x y.accepted)
+  says_unique (bad_table x) (bad_label y) = absurd (x y.accepted)
+  says_unique (bad_table x) (first_unmet y) = absurd (x y.accepted)
+  says_unique (bad_table x) (all_met y) = absurd (x y.accepted)
+  says_unique (no_room x) (bad_table y) = absurd (y x.accepted)
+  says_unique (no_room x) (no_room y) = refl
+  says_unique (no_room x) (bad_label y) = absurd (x.short y.room)
+  says_unique (no_room x) (first_unmet y) = absurd (x.short y.room)
+  says_unique (no_room x) (all_met y) = absurd (x.short y.room)
+  says_unique (bad_label x) (bad_table y) = absurd (y x.accepted)
+  says_unique (bad_label x) (no_room y) = absurd (y.short x.room)
+  says_unique (bad_label x) (bad_label y) = ap (refused_by Fault.BadLabel) (first_unique x.label y.label)
+  says_unique (bad_label x) (first_unmet y) = absurd (first_not_all x.label y.labels)
+  says_unique (bad_label x) (all_met y) = absurd (first_not_all x.label y.labels)
+  says_unique (first_unmet x) (bad_table y) = absurd (y x.accepted)
+  says_unique (first_unmet x) (no_room y) = absurd (y.short x.room)
+  says_unique (first_unmet x) (bad_label y) = absurd (first_not_all y.label x.labels)
+  says_unique (first_unmet x) (first_unmet y) = ap (λ r. success 1 (r ∷ [])) (first_unique x.rule y.rule)
+  says_unique (first_unmet x) (all_met y) = absurd (first_not_all x.rule y.rules)
+  says_unique (all_met x) (bad_table y) = absurd (y x.accepted)
+  says_unique (all_met x) (no_room y) = absurd (y.short x.room)
+  says_unique (all_met x) (bad_label y) = absurd (first_not_all y.label x.labels)
+  says_unique (all_met x) (first_unmet y) = absurd (first_not_all y.rule x.rules)
+  says_unique (all_met x) (all_met y) = refl
 
   -- Any two answers that checking allows are equal.
-  pub check-unique : {a b : Checked} → CheckSays Accepted h at levels marks (saidChecked a) → CheckSays Accepted h at levels marks (saidChecked b) → a ≡ b
-  check-unique x y = said-injective saidChecked checkedOf checked-back (says-unique x y)
+  pub check_unique : {a b : Checked} → CheckSays Accepted h at levels marks (said_checked a) → CheckSays Accepted h at levels marks (said_checked b) → a ≡ b
+  check_unique x y = said_injective said_checked checked_of checked_back (says_unique x y)

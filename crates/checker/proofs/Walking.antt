@@ -11,54 +11,54 @@ use borrow.Author.Tests.{not-true, not-false}
 use lib.Dec.{leb}
 use lib.ListN.{length}
 use Rattle.laws.specs.Tells.{Tells}
-use Rattle.laws.proofs.Bools.{true-not-false}
-use Rattle.laws.proofs.Tells.{tells-unique, tells-no, tells-yes, tells-leb, told-no, told-yes}
+use Rattle.laws.proofs.Bools.{true_not_false}
+use Rattle.laws.proofs.Tells.{tells_unique, tells_no, tells_yes, tells_leb, told_no, told_yes}
 use Rattle.laws.proofs.First.{all_none}
 use Rattle.meaning.specs.Rules.{Met}
 use Rattle.meaning.specs.Classes.{classes}
 use Rattle.refusals.specs.declared.Fault.{Fault}
 use Rattle.refusals.specs.Said.{Said}
-use Rattle.refusals.specs.Sizes.{mostItems, mostRules}
-use Rattle.labels.specs.Labels.{labelsIn}
+use Rattle.refusals.specs.Sizes.{most_items, most_rules}
+use Rattle.labels.specs.Labels.{labels_in}
 use Rattle.rules.specs.declared.Head.{Head}
 use Rattle.rules.specs.declared.Rule.{Rule}
-use Rattle.rules.specs.Record.{meaningOf}
+use Rattle.rules.specs.Record.{meaning_of}
 use Rattle.accepts.specs.Accepted.{RuleAccepted, Standing}
 use Rattle.checker.specs.declared.Checked.{Checked}
 use Rattle.checker.specs.declared.list.Seen.{Seen}
-use Rattle.checker.specs.Answer.{saidChecked}
-use Rattle.checker.specs.Checking.{bad-table}
-use Rattle.checker.specs.List.{listAt, ListAccepted}
-use Rattle.checker.specs.InnerJudging.{refusalAt, Judges}
-use Rattle.checker.specs.InnerWalking.{Sizes, Count, up_to, InOrder, kindBefore, SeenSoFar, Starts, Stands, UnmetOn, GoesOn, Concludes}
-use Rattle.checker.proofs.Meets.{all-met-more, unmet-here, sought-tells}
-use Rattle.checker.proofs.Says.{judges-accepted}
+use Rattle.checker.specs.Answer.{said_checked}
+use Rattle.checker.specs.Checking.{bad_table}
+use Rattle.checker.specs.List.{list_at, ListAccepted}
+use Rattle.checker.specs.InnerJudging.{refusal_at, Judges}
+use Rattle.checker.specs.InnerWalking.{Sizes, Count, up_to, InOrder, kind_before, SeenSoFar, Starts, Stands, UnmetOn, GoesOn, Concludes}
+use Rattle.checker.proofs.Meets.{all_met_more, unmet_here, sought_tells}
+use Rattle.checker.proofs.Says.{judges_accepted}
 
 -- The sizes, and how many rules are looked at.
 module _ (len : ℕ) (h : Head) where
-  pub sizes-items : mostItems < h.items → Tells (Sizes len h) false
-  sizes-items s = tells-no (λ p. omega (arith, p.items))
+  pub sizes_items : most_items < h.items → Tells (Sizes len h) false
+  sizes_items s = tells_no (λ p. omega (arith, p.items))
 
-  pub sizes-rules : mostRules < h.rules → Tells (Sizes len h) false
-  sizes-rules s = tells-no (λ p. omega (arith, p.rules))
+  pub sizes_rules : most_rules < h.rules → Tells (Sizes len h) false
+  sizes_rules s = tells_no (λ p. omega (arith, p.rules))
 
-  pub sizes-room : h.items ≤ mostItems → h.rules ≤ mostRules → Tells (Sizes len h) (leb h.rules len)
-  sizes-room a b = tells-leb _ _ (λ l. record { items = a; rules = b; room = l }) (λ p. p.room)
+  pub sizes_room : h.items ≤ most_items → h.rules ≤ most_rules → Tells (Sizes len h) (leb h.rules len)
+  sizes_room a b = tells_leb _ _ (λ l. record { items = a; rules = b; room = l }) (λ p. p.room)
 
 module _ {len : ℕ} {h : Head} {b : Bool} (sizes : Tells (Sizes len h) b) where
-  pub count-all : b ≡ true → Count len h h.rules
-  count-all e = record { all = λ s. refl; room = (sizes.holds e).room; few = (sizes.holds e).rules }
+  pub count_all : b ≡ true → Count len h h.rules
+  count_all e = record { all = λ s. refl; room = (sizes.holds e).room; few = (sizes.holds e).rules }
 
   pub count_none : b ≡ false → Count len h 0
   count_none e = record { all = λ s. absurd (sizes.fails e s); room = omega arith; few = omega arith }
 
 -- Rules in order, one more and one less.
 module _ (h : Head) {at : ℕ → Rule} where
-  order-more : {i : ℕ} → InOrder h at i → kindBefore at i ≤ (at i).kind → RuleAccepted h.items (at i) → InOrder h at (suc i)
-  order-more {i} p order a = record { each = λ r s. pick r s (dec_lt r i) }
+  order_more : {i : ℕ} → InOrder h at i → kind_before at i ≤ (at i).kind → RuleAccepted h.items (at i) → InOrder h at (suc i)
+  order_more {i} p order a = record { each = λ r s. pick r s (dec_lt r i) }
     where
       rises : (r : ℕ) → suc r ≡ i → (at r).kind ≤ (at (suc r)).kind
-      rises r e = subst (λ k. kindBefore at k ≤ (at k).kind) (sym e) order
+      rises r e = subst (λ k. kind_before at k ≤ (at k).kind) (sym e) order
 
       next : (r : ℕ) → r < i → Dec (suc r < i) → (at r).kind ≤ (at (suc r)).kind
       next r s (yes l) = (p.each r s).order l
@@ -68,23 +68,23 @@ module _ (h : Head) {at : ℕ → Rule} where
       pick r s (yes l) = record { accepted = (p.each r l).accepted; order = λ t. next r l (dec_lt (suc r) i) }
       pick r s (no l) = record { accepted = subst (λ k. RuleAccepted h.items (at k)) (omega arith) a; order = λ t. absurd (omega arith) }
 
-  order-less : {i : ℕ} → InOrder h at (suc i) → InOrder h at i
-  order-less p = record {
+  order_less : {i : ℕ} → InOrder h at (suc i) → InOrder h at i
+  order_less p = record {
     each = λ r s. record { accepted = (p.each r (omega arith)).accepted; order = λ t. (p.each r (omega arith)).order (omega arith) };
   }
 
-  order-rises : (i : ℕ) → InOrder h at (suc i) → kindBefore at i ≤ (at i).kind
-  order-rises zero p = omega arith
-  order-rises (suc i) p = (p.each i (omega arith)).order (omega arith)
+  order_rises : (i : ℕ) → InOrder h at (suc i) → kind_before at i ≤ (at i).kind
+  order_rises zero p = omega arith
+  order_rises (suc i) p = (p.each i (omega arith)).order (omega arith)
 
-  order-last : {i : ℕ} → InOrder h at (suc i) → RuleAccepted h.items (at i)
-  order-last {i} p = (p.each i (omega arith)).accepted
+  order_last : {i : ℕ} → InOrder h at (suc i) → RuleAccepted h.items (at i)
+  order_last {i} p = (p.each i (omega arith)).accepted
 
 -- What is known before the first rule.
-pub starts-so : Starts (record { good = true; kind = 0; unmet = mostRules })
-starts-so = record {
+pub starts_so : Starts (record { good = true; kind = 0; unmet = most_rules })
+starts_so = record {
   start = λ h at levels marks. record {
-    good = tells-yes all_none;
+    good = tells_yes all_none;
     kind = refl;
     unmet = record { found = λ s. absurd (omega arith); none = λ s. all_none };
   };
@@ -92,51 +92,51 @@ starts-so = record {
 
 -- Whether a rule may come behind those before it.
 module _ (before : Seen) (rule : Rule) (n : ℕ) where
-  pub stands-after-bad : not before.good ≡ true → Tells (Stands before rule n) false
-  stands-after-bad e = tells-no (λ p. true-not-false p.good (not-true before.good e))
+  pub stands_after_bad : not before.good ≡ true → Tells (Stands before rule n) false
+  stands_after_bad e = tells_no (λ p. true_not_false p.good (not-true before.good e))
 
-  pub stands-out-of-order : rule.kind < before.kind → Tells (Stands before rule n) false
-  stands-out-of-order s = tells-no (λ p. omega (arith, p.order))
+  pub stands_out_of_order : rule.kind < before.kind → Tells (Stands before rule n) false
+  stands_out_of_order s = tells_no (λ p. omega (arith, p.order))
 
-  pub stands-by-itself : not before.good ≡ false → before.kind ≤ rule.kind → {b : Bool} → Tells (RuleAccepted n rule) b → Tells (Stands before rule n) b
-  stands-by-itself e o t = record {
+  pub stands_by_itself : not before.good ≡ false → before.kind ≤ rule.kind → {b : Bool} → Tells (RuleAccepted n rule) b → Tells (Stands before rule n) b
+  stands_by_itself e o t = record {
     holds = λ f. record { good = not-false before.good e; order = o; accepted = t.holds f };
     fails = λ f p. t.fails f p.accepted;
   }
 
 -- The first rule that is not met: an earlier one, this one, or none.
 module _ {before : ℕ} {rule : Rule} {i : ℕ} {levels marks : List ℕ} where
-  pub unmet-earlier : before < i → UnmetOn before rule i levels marks before
-  unmet-earlier s = record {
+  pub unmet_earlier : before < i → UnmetOn before rule i levels marks before
+  unmet_earlier s = record {
     on = λ at here few x. record {
       found = λ t. record { below = t; before = (x.found s).before; fails = (x.found s).fails };
       none = λ t. absurd (omega arith);
     };
   }
 
-  module _ (s : i ≤ before) {b : Bool} (told : Tells (Met classes (meaningOf rule) (labelsIn levels marks)) b) where
-    pub unmet-now : not b ≡ true → UnmetOn before rule i levels marks i
-    unmet-now e = record { on = λ at here few x. sought-tells (unmet-here here told (omega arith) (x.none s) e) }
+  module _ (s : i ≤ before) {b : Bool} (told : Tells (Met classes (meaning_of rule) (labels_in levels marks)) b) where
+    pub unmet_now : not b ≡ true → UnmetOn before rule i levels marks i
+    unmet_now e = record { on = λ at here few x. sought_tells (unmet_here here told (omega arith) (x.none s) e) }
 
-    pub unmet-none : not b ≡ false → UnmetOn before rule i levels marks mostRules
-    unmet-none e = record {
+    pub unmet_none : not b ≡ false → UnmetOn before rule i levels marks most_rules
+    unmet_none e = record {
       on = λ at here few x. record {
         found = λ t. absurd (omega arith);
-        none = λ t. rw (← add-one) (all-met-more here told (x.none s) e);
+        none = λ t. rw (← add-one) (all_met_more here told (x.none s) e);
       };
     }
 
 -- What is known after one rule more.
 module _ {before : Seen} {rule : Rule} {i : ℕ} {h : Head} {levels marks : List ℕ} where
   module _ {at : ℕ → Rule} (here : rule ≡ at i) (x : SeenSoFar h at levels marks i before) where
-    order-on : Stands before rule h.items → InOrder h at (suc i)
-    order-on p = order-more h (x.good.holds p.good) (rw (← x.kind, ← here) p.order) (subst (RuleAccepted h.items) here p.accepted)
+    order_on : Stands before rule h.items → InOrder h at (suc i)
+    order_on p = order_more h (x.good.holds p.good) (rw (← x.kind, ← here) p.order) (subst (RuleAccepted h.items) here p.accepted)
 
-    order-back : InOrder h at (suc i) → Stands before rule h.items
-    order-back p = record {
-      good = tells-unique x.good (tells-yes (order-less h p));
-      order = rw (x.kind, here) (order-rises h i p);
-      accepted = subst (RuleAccepted h.items) (sym here) (order-last h p);
+    order_back : InOrder h at (suc i) → Stands before rule h.items
+    order_back p = record {
+      good = tells_unique x.good (tells_yes (order_less h p));
+      order = rw (x.kind, here) (order_rises h i p);
+      accepted = subst (RuleAccepted h.items) (sym here) (order_last h p);
     }
 
   pub goes_on : {g : Bool} {u : ℕ} → Tells (Stands before rule h.items) g → UnmetOn before.unmet rule i levels marks u
@@ -144,8 +144,8 @@ module _ {before : Seen} {rule : Rule} {i : ℕ} {h : Head} {levels marks : List
   goes_on t s = record {
     on = λ at here few x. record {
       good = record {
-        holds = λ e. order-on here x (t.holds e);
-        fails = λ e p. t.fails e (order-back here x p);
+        holds = λ e. order_on here x (t.holds e);
+        fails = λ e p. t.fails e (order_back here x p);
       };
       kind = rw here refl;
       unmet = s.on at here few x.unmet;
@@ -154,26 +154,26 @@ module _ {before : Seen} {rule : Rule} {i : ℕ} {h : Head} {levels marks : List
 
 -- The end of the walk: the sizes are wrong, the rules are not accepted, or they are.
 module _ {seen : Seen} {len : ℕ} {h : Head} {levels marks : List ℕ} {b : Bool} (told : Tells (Sizes len h) b) where
-  pub concludes-sizes : not b ≡ true → {r : Checked} → r ≡ refusalAt Fault.BadTable 0 → Concludes seen len h levels marks (saidChecked r)
-  concludes-sizes bad e = rw e (record {
-    says = λ rules l count x. bad-table (λ a. told-no told bad (record { items = a.accepted.items; rules = a.accepted.rules; room = rw (← l) a.room }));
+  pub concludes_sizes : not b ≡ true → {r : Checked} → r ≡ refusal_at Fault.BadTable 0 → Concludes seen len h levels marks (said_checked r)
+  concludes_sizes bad e = rw e (record {
+    says = λ rules l count x. bad_table (λ a. told_no told bad (record { items = a.accepted.items; rules = a.accepted.rules; room = rw (← l) a.room }));
   })
 
   module _ (sizes : not b ≡ false) where
     -- All rules were looked at.
     all_seen : {at : ℕ → Rule} {c : ℕ} → Count len h c → SeenSoFar h at levels marks c seen → SeenSoFar h at levels marks h.rules seen
-    all_seen {at} count x = subst (λ k. SeenSoFar h at levels marks k seen) (count.all (told-yes told sizes)) x
+    all_seen {at} count x = subst (λ k. SeenSoFar h at levels marks k seen) (count.all (told_yes told sizes)) x
 
-    pub concludes-order : not seen.good ≡ true → {r : Checked} → r ≡ refusalAt Fault.BadTable 0 → Concludes seen len h levels marks (saidChecked r)
-    concludes-order bad e = rw e (record {
-      says = λ rules l count x. bad-table (λ a. told-no (all_seen count x).good bad (record { each = a.accepted.each }));
+    pub concludes_order : not seen.good ≡ true → {r : Checked} → r ≡ refusal_at Fault.BadTable 0 → Concludes seen len h levels marks (said_checked r)
+    concludes_order bad e = rw e (record {
+      says = λ rules l count x. bad_table (λ a. told_no (all_seen count x).good bad (record { each = a.accepted.each }));
     })
 
-    pub concludes-judged : not seen.good ≡ false → {s : Said} → Judges seen.unmet h levels marks s → Concludes seen len h levels marks s
-    concludes-judged good j = record { says = λ rules l count x. judges-accepted (accepted rules l (all_seen count x)) j (all_seen count x).unmet }
+    pub concludes_judged : not seen.good ≡ false → {s : Said} → Judges seen.unmet h levels marks s → Concludes seen len h levels marks s
+    concludes_judged good j = record { says = λ rules l count x. judges_accepted (accepted rules l (all_seen count x)) j (all_seen count x).unmet }
       where
-        accepted : (rules : List Rule) → length rules ≡ len → SeenSoFar h (listAt rules) levels marks h.rules seen → ListAccepted h rules
-        accepted rules l x = let s = told-yes told sizes in record {
+        accepted : (rules : List Rule) → length rules ≡ len → SeenSoFar h (list_at rules) levels marks h.rules seen → ListAccepted h rules
+        accepted rules l x = let s = told_yes told sizes in record {
           room = rw l s.room;
-          accepted = record { items = s.items; rules = s.rules; each = (told-yes x.good good).each };
+          accepted = record { items = s.items; rules = s.rules; each = (told_yes x.good good).each };
         }

@@ -6,15 +6,15 @@ use Rattle.laws.specs.First.{AllBelow, FirstFailing}
 use Rattle.meaning.specs.Rules as meant
 use Rattle.meaning.specs.Classes.{classes}
 use Rattle.refusals.specs.declared.Fault.{Fault}
-use Rattle.refusals.specs.Said.{Said, success, refusedBy}
-use Rattle.labels.specs.Labels.{labelsIn, LevelInRange, Room}
+use Rattle.refusals.specs.Said.{Said, success, refused_by}
+use Rattle.labels.specs.Labels.{labels_in, LevelInRange, Room}
 use Rattle.rules.specs.declared.Head.{Head}
 use Rattle.rules.specs.declared.Rule.{Rule}
-use Rattle.rules.specs.Record.{meaningOf}
+use Rattle.rules.specs.Record.{meaning_of}
 
 -- Rule r is met.
 pub record RuleMet (at : ℕ → Rule) (levels marks : List ℕ) (r : ℕ) : Type 0 where
-  pub meets : meant.Met classes (meaningOf (at r)) (labelsIn levels marks)
+  pub meets : meant.Met classes (meaning_of (at r)) (labels_in levels marks)
 
 module _ (Accepted : Type 0) (h : Head) (at : ℕ → Rule) (levels marks : List ℕ) where
   -- The lent labels are shorter than the items.
@@ -44,8 +44,8 @@ module _ (Accepted : Type 0) (h : Head) (at : ℕ → Rule) (levels marks : List
 
   -- "Checking: 10, 11, 12, then the answer", with the place of each refusal.
   pub data CheckSays : Said → Type 0 where
-    bad-table : (Accepted → ⊥) → CheckSays (refusedBy Fault.BadTable 0)
-    no_room : Roomless → CheckSays (refusedBy Fault.NoRoom 0)
-    bad-label : {i : ℕ} → BadAt i → CheckSays (refusedBy Fault.BadLabel i)
-    first-unmet : {r : ℕ} → UnmetAt r → CheckSays (success 1 (r ∷ []))
-    all-met : AllMet → CheckSays (success 0 [])
+    bad_table : (Accepted → ⊥) → CheckSays (refused_by Fault.BadTable 0)
+    no_room : Roomless → CheckSays (refused_by Fault.NoRoom 0)
+    bad_label : {i : ℕ} → BadAt i → CheckSays (refused_by Fault.BadLabel i)
+    first_unmet : {r : ℕ} → UnmetAt r → CheckSays (success 1 (r ∷ []))
+    all_met : AllMet → CheckSays (success 0 [])

@@ -11,8 +11,8 @@ use Rattle.checker.specs.declared.Checked.TheVariants.{Refused}
 use Rattle.checker.specs.Checking.{RuleMet, CheckSays}
 
 -- The refusal for a fault at a place.
-abbrev pub refusalAt : Fault → ℕ → Checked
-refusalAt f p = Refused (record { fault = f; place = p })
+abbrev pub refusal_at : Fault → ℕ → Checked
+refusal_at f p = Refused (record { fault = f; place = p })
 
 -- A number tells which of m rules is the first that is not met: one below m is it, and any other says that each is met.
 pub record TellsUnmet (at : ℕ → Rule) (levels marks : List ℕ) (m unmet : ℕ) : Type 0 where

@@ -4,26 +4,26 @@ use Rattle.std.specs.Prelude.{◌≡◌, true, List, ℕ, zero, suc, ◌≤◌, 
 use Rattle.laws.specs.Tells.{Tells}
 use Rattle.laws.specs.First.{AllBelow}
 use Rattle.refusals.specs.Said.{Said}
-use Rattle.refusals.specs.Sizes.{mostItems, mostRules}
+use Rattle.refusals.specs.Sizes.{most_items, most_rules}
 use Rattle.rules.specs.declared.Head.{Head}
 use Rattle.rules.specs.declared.Rule.{Rule}
 use Rattle.accepts.specs.Accepted.{RuleAccepted, Standing}
 use Rattle.checker.specs.declared.list.Seen.{Seen}
 use Rattle.checker.specs.Checking.{CheckSays}
-use Rattle.checker.specs.List.{listAt, ListAccepted}
+use Rattle.checker.specs.List.{list_at, ListAccepted}
 use Rattle.checker.specs.InnerJudging.{TellsUnmet}
 
 -- The head is not too large, and a list of this length is not too short for it.
 pub record Sizes (len : ℕ) (h : Head) : Type 0 where
-  pub items : h.items ≤ mostItems
-  pub rules : h.rules ≤ mostRules
+  pub items : h.items ≤ most_items
+  pub rules : h.rules ≤ most_rules
   pub room : h.rules ≤ len
 
 -- c rules are looked at: all of them where the sizes are right, and never more than there are or may be.
 pub record Count (len : ℕ) (h : Head) (c : ℕ) : Type 0 where
   pub all : Sizes len h → c ≡ h.rules
   pub room : c ≤ len
-  pub few : c ≤ mostRules
+  pub few : c ≤ most_rules
 
 -- The head of the book of the first i rules.
 abbrev pub up_to : Head → ℕ → Head
@@ -34,14 +34,14 @@ abbrev pub InOrder : Head → (ℕ → Rule) → ℕ → Type 0
 InOrder h at i = AllBelow (Standing (up_to h i) at) i
 
 -- The kind of the last of the first i rules; before the first it is the lowest.
-abbrev pub kindBefore : (ℕ → Rule) → ℕ → ℕ
-kindBefore at zero = 0
-kindBefore at (suc i) = (at i).kind
+abbrev pub kind_before : (ℕ → Rule) → ℕ → ℕ
+kind_before at zero = 0
+kind_before at (suc i) = (at i).kind
 
 -- What is known of the first i rules.
 pub record SeenSoFar (h : Head) (at : ℕ → Rule) (levels marks : List ℕ) (i : ℕ) (s : Seen) : Type 0 where
   pub good : Tells (InOrder h at i) s.good
-  pub kind : s.kind ≡ kindBefore at i
+  pub kind : s.kind ≡ kind_before at i
   pub unmet : TellsUnmet at levels marks i s.unmet
 
 -- It is known of no rule.
@@ -56,13 +56,13 @@ pub record Stands (before : Seen) (rule : Rule) (n : ℕ) : Type 0 where
 
 -- From which of the rules before rule i is the first that is not met to which of those up to it.
 pub record UnmetOn (before : ℕ) (rule : Rule) (i : ℕ) (levels marks : List ℕ) (after : ℕ) : Type 0 where
-  pub on : (at : ℕ → Rule) → rule ≡ at i → i < mostRules → TellsUnmet at levels marks i before → TellsUnmet at levels marks (suc i) after
+  pub on : (at : ℕ → Rule) → rule ≡ at i → i < most_rules → TellsUnmet at levels marks i before → TellsUnmet at levels marks (suc i) after
 
 -- From what is known before rule i to what is known after it.
 pub record GoesOn (before : Seen) (rule : Rule) (i : ℕ) (h : Head) (levels marks : List ℕ) (after : Seen) : Type 0 where
-  pub on : (at : ℕ → Rule) → rule ≡ at i → i < mostRules → SeenSoFar h at levels marks i before → SeenSoFar h at levels marks (suc i) after
+  pub on : (at : ℕ → Rule) → rule ≡ at i → i < most_rules → SeenSoFar h at levels marks i before → SeenSoFar h at levels marks (suc i) after
 
 -- From what is known of the rules that were looked at to what checking says of the list.
 pub record Concludes (seen : Seen) (len : ℕ) (h : Head) (levels marks : List ℕ) (s : Said) : Type 0 where
-  pub says : (rules : List Rule) → length rules ≡ len → {c : ℕ} → Count len h c → SeenSoFar h (listAt rules) levels marks c seen
-      → CheckSays (ListAccepted h rules) h (listAt rules) levels marks s
+  pub says : (rules : List Rule) → length rules ≡ len → {c : ℕ} → Count len h c → SeenSoFar h (list_at rules) levels marks c seen
+      → CheckSays (ListAccepted h rules) h (list_at rules) levels marks s

@@ -2,9 +2,9 @@
 //
 // The walk over the list is thin: each rule is passed by value to `next`, which keeps what is known of the rules so far in a struct.
 ghost use Rattle.laws.specs.Tells.{Tells};
-ghost use Rattle.checker.specs.Answer.{saidChecked};
+ghost use Rattle.checker.specs.Answer.{said_checked};
 ghost use Rattle.checker.specs.Checking.{CheckSays};
-ghost use Rattle.checker.specs.List.{listAt, ListAccepted};
+ghost use Rattle.checker.specs.List.{list_at, ListAccepted};
 ghost use Rattle.checker.specs.InnerWalking.{Sizes, Count, Starts, Stands, UnmetOn, GoesOn, Concludes};
 
 use super::{Checked, judged, met, refused};
@@ -13,7 +13,7 @@ use rules::{Head, Rule};
 
 // What is known of the rules so far: whether they are accepted in this order, the kind of the last one, and the number of the first one that is
 // not met, or the most rules where each is met.
-#[derive(Drop)]
+#[derive(Clone, Copy)]
 pub(crate) struct Seen {
     pub good: bool,
     pub kind: u64,
@@ -22,7 +22,7 @@ pub(crate) struct Seen {
 
 // As `check`, of rules that are lent as records: BadTable also where the list is shorter than the head says.
 pub fn check_list(rules: &[Rule], head: Head, levels: &[u64], marks: &[u64]) -> Checked
-    ensures { CheckSays (ListAccepted head rules.now) head (listAt rules.now) levels.now marks.now (saidChecked result) }
+    ensures { CheckSays (ListAccepted head rules.now) head (list_at rules.now) levels.now marks.now (said_checked result) }
 {
     let len = rules.len();
     let count = listed(len, head);
@@ -37,7 +37,7 @@ pub fn check_list(rules: &[Rule], head: Head, levels: &[u64], marks: &[u64]) -> 
 
 // As `check_list`, of rules that are passed by value.
 pub fn check_array(rules: [Rule; MOST_RULES], head: Head, levels: &[u64], marks: &[u64]) -> Checked
-    ensures { CheckSays (ListAccepted head rules) head (listAt rules) levels.now marks.now (saidChecked result) }
+    ensures { CheckSays (ListAccepted head rules) head (list_at rules) levels.now marks.now (said_checked result) }
 {
     check_list(&rules, head, levels, marks)
 }
@@ -112,7 +112,7 @@ fn unmet_after(unmet: usize, rule: Rule, i: usize, levels: &[u64], marks: &[u64]
 
 // What is answered once the rules are looked at.
 fn answer(seen: Seen, len: usize, head: Head, levels: &[u64], marks: &[u64]) -> Checked
-    ensures { Concludes seen len head levels.now marks.now (saidChecked result) }
+    ensures { Concludes seen len head levels.now marks.now (said_checked result) }
 {
     if !sizes_ok(len, head) {
         return refused(Fault::BadTable, 0);

@@ -9,12 +9,12 @@ abbrev pub class_of : ℕ → ℕ → Class
 class_of l m = record { level = l; marks = m }
 
 -- "a level 0 to 15".
-abbrev pub topLevel : ℕ
-topLevel = 15
+abbrev pub top_level : ℕ
+top_level = 15
 
 -- A class is a level 0 to 15 and a set of marks 0 to 63.
 pub record IsClass (c : Class) : Type 0 where
-  pub level : c.level ≤ topLevel
+  pub level : c.level ≤ top_level
   pub marks : c.marks < 2 ^ 64
 
 -- Mark k is the bit worth 2^k.
@@ -31,12 +31,12 @@ unfoldable pub joined : Class → Class → Class
 joined x y = class_of (max x.level y.level) (word 64 (λ k. max (bit k x.marks) (bit k y.marks)))
 
 -- The common part has the smallest level and every mark that all of them have.
-unfoldable pub commonOf : Class → Class → Class
-commonOf x y = class_of (min x.level y.level) (word 64 (λ k. min (bit k x.marks) (bit k y.marks)))
+unfoldable pub common_of : Class → Class → Class
+common_of x y = class_of (min x.level y.level) (word 64 (λ k. min (bit k x.marks) (bit k y.marks)))
 
 -- The lowest class is 0/0000000000000000 and the highest 15/ffffffffffffffff.
 abbrev pub lowest : Class
 lowest = class_of 0 0x0000_0000_0000_0000
 
 abbrev pub highest : Class
-highest = class_of topLevel 0xffff_ffff_ffff_ffff
+highest = class_of top_level 0xffff_ffff_ffff_ffff

@@ -2,7 +2,7 @@
 -- Assumes nothing.
 use Rattle.std.specs.Prelude.{ℕ, zero, suc}
 use Rattle.classes.specs.Bits.{bit, word}
-use Rattle.classes.specs.Class.{topLevel, class_of}
+use Rattle.classes.specs.Class.{top_level, class_of}
 use Rattle.classes.specs.declared.Class.{Class}
 
 -- The level and 64 marks.
@@ -15,9 +15,9 @@ part (suc k) c = bit k c.marks
 
 -- The greatest value of a part: 15 for the level, 1 for a mark.
 unfoldable pub top_of : ℕ → ℕ
-top_of zero = topLevel
+top_of zero = top_level
 top_of (suc k) = 1
 
 -- The class whose parts are f 0, f 1, ..
-unfoldable pub fromParts : (ℕ → ℕ) → Class
-fromParts f = class_of (f 0) (word 64 (λ k. f (suc k)))
+unfoldable pub from_parts : (ℕ → ℕ) → Class
+from_parts f = class_of (f 0) (word 64 (λ k. f (suc k)))

@@ -5,12 +5,12 @@
 ghost use Rattle.std.specs.Prelude.{◌≡◌, min, max};
 ghost use Rattle.laws.specs.Tells.{Tells};
 ghost use Rattle.classes.specs.Bits.{LowestOne};
-ghost use Rattle.classes.specs.Class.{Covers, HasMark, joined, commonOf, lowest, highest, class_of};
+ghost use Rattle.classes.specs.Class.{Covers, HasMark, joined, common_of, lowest, highest, class_of};
 
 // The highest level.
 pub const TOP_LEVEL: u64 = 15;
 
-#[derive(Drop)]
+#[derive(Clone, Copy)]
 pub struct Class {
     pub level: u64,
     pub marks: u64,
@@ -55,7 +55,7 @@ impl Class {
 
     // The smaller level, and every mark that both classes have.
     pub fn common(self, other: Class) -> Class
-        ensures { result ≡ commonOf self other }
+        ensures { result ≡ common_of self other }
     {
         Class {
             level: smaller(self.level, other.level),

@@ -16,15 +16,15 @@ use Rattle.exports.specs.Names.{KeepsCovered}
 use Rattle.columns.specs.Inner.{Numbered, Covering}
 
 -- Nothing is said.
-pub cover-none : {labels : ℕ → Class} {reader : Class} {numbers : List ℕ} {before : List Bool} → Covering labels reader numbers 0 before before
-cover-none = record { sized = refl; told = λ c h. absurd (omega arith); rest = refl }
+pub cover_none : {labels : ℕ → Class} {reader : Class} {numbers : List ℕ} {before : List Bool} → Covering labels reader numbers 0 before before
+cover_none = record { sized = refl; told = λ c h. absurd (omega arith); rest = refl }
 
 -- Of one column more.
-pub cover-more : {labels : ℕ → Class} {reader : Class} {numbers : List ℕ} {c : ℕ} {before after : List Bool}
+pub cover_more : {labels : ℕ → Class} {reader : Class} {numbers : List ℕ} {c : ℕ} {before after : List Bool}
     → Covering labels reader numbers c before after
     → c < length before → {x : Class} → x ≡ labels (get_or numbers c 0) → {r : Bool} → Tells (Covers reader x) r
     → Covering labels reader numbers (c + 1) before (set after c r)
-cover-more {labels} {reader} {numbers} {c} {before} {after} w h {x} e {r} g = record {
+cover_more {labels} {reader} {numbers} {c} {before} {after} w h {x} e {r} g = record {
   sized = length-set after c r ∙ w.sized;
   told = λ j k. told j k (dec_le c j);
   rest = drop-set-lt (c + 1) after c r (omega arith) ∙ sym (drop-drop 1 c after) ∙ ap (drop 1) w.rest ∙ drop-drop 1 c before;
@@ -44,9 +44,9 @@ cover_all e w = rw e at w
 -- What the front of the buffer then says of the columns that have these items.
 module _ {labels : ℕ → Class} {reader : Class} {numbers : List ℕ} {fields : ℕ} {before after : List Bool}
     (w : Covering labels reader numbers fields before after) where
-  pub covered-front : (t : List ℕ) (n : ℕ) (fs : List (List ℕ)) → fields ≡ length fs → fields ≤ length before → Numbered t n fs numbers
+  pub covered_front : (t : List ℕ) (n : ℕ) (fs : List (List ℕ)) → fields ≡ length fs → fields ≤ length before → Numbered t n fs numbers
       → KeepsCovered t n labels reader fs (take fields after)
-  covered-front t n fs e h s = record {
+  covered_front t n fs e h s = record {
     columns = length-take-le fields after (omega (arith, w.sized)) ∙ e;
     covered = λ c i g f.
         let inside : c < fields = omega arith in
@@ -55,5 +55,5 @@ module _ {labels : ℕ → Class} {reader : Class} {numbers : List ℕ} {fields 
         rw (get_or-take fields after c false inside, same) (w.told c inside);
   }
 
-  pub covered-rest : after ≡ take fields after ++ drop fields before
-  covered-rest = sym (take-append-drop fields after) ∙ ap (λ (x : List Bool). take fields after ++ x) w.rest
+  pub covered_rest : after ≡ take fields after ++ drop fields before
+  covered_rest = sym (take-append-drop fields after) ∙ ap (λ (x : List Bool). take fields after ++ x) w.rest

@@ -12,83 +12,83 @@ use types.Run.{OneOf}
 use denote.Enum as enum
 use Rattle.classes.specs.declared.Class.{Class}
 use Rattle.refusals.specs.declared.Fault.{Fault}
-use Rattle.records.specs.Rows.{whole, more, bad, recordAt, mostFields, RowSays}
-use Rattle.records.specs.Inner.{fieldsTo}
+use Rattle.records.specs.Rows.{whole, more, bad, record_at, most_fields, RowSays}
+use Rattle.records.specs.Inner.{fields_to}
 use Rattle.records.specs.declared.Extent.{Extent}
 use Rattle.records.specs.declared.Size.{Size}
-use Rattle.records.proofs.Parts.{fields-count, WholeAt, row-whole, row_more, row-bad}
-use Rattle.columns.specs.Columns.{saidKept, saidColumns, header_at, HeaderSays, bad-header, more-header, bad-names, no_room, keeps}
-use Rattle.columns.specs.Inner.{refusedFor, NumberRoom, HeaderReady, FindsItems, Headed, HeadSays, no_header, part-header, no_names, good-header}
+use Rattle.records.proofs.Parts.{fields_count, WholeAt, row_whole, row_more, row_bad}
+use Rattle.columns.specs.Columns.{said_kept, said_columns, header_at, HeaderSays, bad_header, more_header, bad_names, no_room, keeps}
+use Rattle.columns.specs.Inner.{refused_for, NumberRoom, HeaderReady, FindsItems, Headed, HeadSays, no_header, part_header, no_names, good_header}
 use Rattle.columns.specs.Inner.{Covering, KeepSays, roomless, covers}
 use Rattle.columns.specs.declared.Columns.{Columns}
 use Rattle.columns.specs.contracts.Columns as columns
-use Rattle.columns.proofs.Covered.{covered-front, covered-rest}
+use Rattle.columns.proofs.Covered.{covered_front, covered_rest}
 
 -- No bytes.
 module _ {t : List ℕ} {n : ℕ} {l : List ℕ} {last : Bool} {numbers : List ℕ} where
-  pub head-none : {r : Columns} → length l ≡ 0 → last ≡ true → r ≡ refusedFor Fault.CsvSyntax 1 → HeadSays t n l last numbers r
-  head-none h g e = rw e (no_header (nothing l h))
+  pub head_none : {r : Columns} → length l ≡ 0 → last ≡ true → r ≡ refused_for Fault.CsvSyntax 1 → HeadSays t n l last numbers r
+  head_none h g e = rw e (no_header (nothing l h))
     where
       nothing : (m : List ℕ) → length m ≡ 0 → header_at last m ≡ bad
       nothing [] z = rw g
       nothing (b ∷ m) z = absurd (omega arith)
 
-  pub head-empty : length l ≡ 0 → last ≡ false → HeadSays t n l last numbers Columns.More
-  head-empty h g = part-header (nothing l h)
+  pub head_empty : length l ≡ 0 → last ≡ false → HeadSays t n l last numbers Columns.More
+  head_empty h g = part_header (nothing l h)
     where
       nothing : (m : List ℕ) → length m ≡ 0 → header_at last m ≡ more
       nothing [] z = rw g
       nothing (b ∷ m) z = absurd (omega arith)
 
 -- The header of a text with bytes is the record at its front.
-header_is : (l : List ℕ) (last : Bool) → (length l ≡ 0 → ⊥) → header_at last l ≡ recordAt last mostFields l
+header_is : (l : List ℕ) (last : Bool) → (length l ≡ 0 → ⊥) → header_at last l ≡ record_at last most_fields l
 header_is [] last h = absurd (h refl)
 header_is (b ∷ l) last h = refl
 
 -- The record at the front of a text, with room for the ends of all its fields.
-module _ {l : List ℕ} {last : Bool} {ends₀ : List ℕ} {s : Size} {ends : List ℕ} (p : RowSays l 0 last mostFields ends₀ s ends)
-    (room : length ends₀ ≡ mostFields) (some : length l ≡ 0 → ⊥) where
-  enough : mostFields ≤ length ends₀
+module _ {l : List ℕ} {last : Bool} {ends₀ : List ℕ} {s : Size} {ends : List ℕ} (p : RowSays l 0 last most_fields ends₀ s ends)
+    (room : length ends₀ ≡ most_fields) (some : length l ≡ 0 → ⊥) where
+  enough : most_fields ≤ length ends₀
   enough = omega (arith, room)
 
   -- The text ends before it does; it is none.
   pub head_more : {t : List ℕ} {n : ℕ} {numbers : List ℕ} → s ≡ Size.More → HeadSays t n l last numbers Columns.More
-  head_more d = part-header (header_is l last some ∙ row_more p enough d)
+  head_more d = part_header (header_is l last some ∙ row_more p enough d)
 
-  pub head-bad : {t : List ℕ} {n : ℕ} {numbers : List ℕ} {r : Columns} → s ≡ Size.Bad → r ≡ refusedFor Fault.CsvSyntax 1 → HeadSays t n l last numbers r
-  head-bad d e = rw e (no_header (header_is l last some ∙ row-bad p enough d))
+  pub head_bad : {t : List ℕ} {n : ℕ} {numbers : List ℕ} {r : Columns} → s ≡ Size.Bad → r ≡ refused_for Fault.CsvSyntax 1 → HeadSays t n l last numbers r
+  head_bad d e = rw e (no_header (header_is l last some ∙ row_bad p enough d))
 
   -- It is whole.
   module _ {x : Extent} (d : s ≡ Size.Whole x) where
-    row : WholeAt l 0 last mostFields ends x
-    row = row-whole p enough d (omega arith)
+    row : WholeAt l 0 last most_fields ends x
+    row = row_whole p enough d (omega arith)
 
-    header : header_at last l ≡ whole (fieldsTo l 0 ends x.fields) x.bytes
+    header : header_at last l ≡ whole (fields_to l 0 ends x.fields) x.bytes
     header = header_is l last some ∙ row.is
 
-    pub head-ready : {numbers₀ : List ℕ} → NumberRoom numbers₀ → HeaderReady l ends x.fields numbers₀
-    head-ready h = record { spans = row.spans; room = omega (arith, row.few, h.size) }
+    pub head_ready : {numbers₀ : List ℕ} → NumberRoom numbers₀ → HeaderReady l ends x.fields numbers₀
+    head_ready h = record { spans = row.spans; room = omega (arith, row.few, h.size) }
 
     -- Each name is an item and none is repeated; or not.
-    module _ {t : List ℕ} {n : ℕ} {numbers : List ℕ} {b : Bool} (found : FindsItems t n (fieldsTo l 0 ends x.fields) b numbers) where
-      pub head-good : b ≡ true → HeadSays t n l last numbers (Columns.Kept x.fields)
-      head-good e = good-header (record {
-        fields = fieldsTo l 0 ends x.fields;
+    module _ {t : List ℕ} {n : ℕ} {numbers : List ℕ} {b : Bool} (found : FindsItems t n (fields_to l 0 ends x.fields) b numbers) where
+      pub head_good : b ≡ true → HeadSays t n l last numbers (Columns.Kept x.fields)
+      head_good e = good_header (record {
+        fields = fields_to l 0 ends x.fields;
         bytes = x.bytes;
         header = header;
-        count = sym (fields-count l 0 ends x.fields);
+        count = sym (fields_count l 0 ends x.fields);
         few = row.few;
         names = found.told.holds e;
         items = found.items e;
       })
 
-      pub head-unknown : {r : Columns} → b ≡ false → r ≡ refusedFor Fault.CsvHeader 1 → HeadSays t n l last numbers r
-      head-unknown e f = rw f (no_names header (found.told.fails e))
+      pub head_unknown : {r : Columns} → b ≡ false → r ≡ refused_for Fault.CsvHeader 1 → HeadSays t n l last numbers r
+      head_unknown e f = rw f (no_names header (found.told.fails e))
 
 -- Whether there is room to say of each column whether it is covered.
 module _ {labels : ℕ → Class} {reader : Class} {numbers : List ℕ} {fields : ℕ} {before : List Bool} where
-  pub keep-roomless : {r : Columns} → length before < fields → r ≡ refusedFor Fault.NoRoom 0 → KeepSays labels reader numbers fields before r before
-  keep-roomless h e = rw e (roomless h)
+  pub keep_roomless : {r : Columns} → length before < fields → r ≡ refused_for Fault.NoRoom 0 → KeepSays labels reader numbers fields before r before
+  keep_roomless h e = rw e (roomless h)
 
   pub keep_all : {after : List Bool} → fields ≤ length before → Covering labels reader numbers fields before after
       → KeepSays labels reader numbers fields before (Columns.Kept fields) after
@@ -103,37 +103,37 @@ Good t n l last numbers (Columns.Refused r) = Unit {0}
 good : {t : List ℕ} {n : ℕ} {l : List ℕ} {last : Bool} {numbers : List ℕ} {x : Columns} → HeadSays t n l last numbers x
     → Good t n l last numbers x
 good (no_header h) = tt
-good (part-header h) = tt
+good (part_header h) = tt
 good (no_names h b) = tt
-good (good-header h) = h
+good (good_header h) = h
 
 module _ {t : List ℕ} {n : ℕ} {l : List ℕ} {last : Bool} {numbers : List ℕ} {x : Columns} (p : HeadSays t n l last numbers x) where
   headed : {fields : ℕ} → x ≡ Columns.Kept fields → Headed t n l last fields numbers
   headed e = subst (Good t n l last numbers) e (good p)
 
-  pub head_few : {fields : ℕ} → x ≡ Columns.Kept fields → length numbers ≡ mostFields → fields ≤ length numbers
+  pub head_few : {fields : ℕ} → x ≡ Columns.Kept fields → length numbers ≡ most_fields → fields ≤ length numbers
   head_few e h = omega (arith, (headed e).few)
 
 -- What is said where it is not good.
-pub by-other : {t : List ℕ} {n : ℕ} {labels : ℕ → Class} {reader : Class} {l : List ℕ} {last : Bool} {before : List Bool} {numbers : List ℕ} {x : Columns}
+pub by_other : {t : List ℕ} {n : ℕ} {labels : ℕ → Class} {reader : Class} {l : List ℕ} {last : Bool} {before : List Bool} {numbers : List ℕ} {x : Columns}
     → HeadSays t n l last numbers x → OneOf (1 ∷ 2 ∷ []) (enum.Declared.tag_of columns.the_type x)
-    → HeaderSays t n labels reader l last before (saidColumns x) before
-by-other (no_header h) o = bad-header h
-by-other (part-header h) o = more-header h
-by-other (no_names h b) o = bad-names h b
-by-other (good-header h) (inl z) = absurd (omega arith)
-by-other (good-header h) (inr z) = absurd (omega arith)
+    → HeaderSays t n labels reader l last before (said_columns x) before
+by_other (no_header h) o = bad_header h
+by_other (part_header h) o = more_header h
+by_other (no_names h b) o = bad_names h b
+by_other (good_header h) (inl z) = absurd (omega arith)
+by_other (good_header h) (inr z) = absurd (omega arith)
 
 -- What is said where it is.
-pub by-kept : {t : List ℕ} {n : ℕ} {labels : ℕ → Class} {reader : Class} {l : List ℕ} {last : Bool} {before : List Bool} {numbers : List ℕ} {x : Columns}
+pub by_kept : {t : List ℕ} {n : ℕ} {labels : ℕ → Class} {reader : Class} {l : List ℕ} {last : Bool} {before : List Bool} {numbers : List ℕ} {x : Columns}
     {fields : ℕ} {r : Columns} {after : List Bool} → HeadSays t n l last numbers x → x ≡ Columns.Kept fields
-    → KeepSays labels reader numbers fields before r after → HeaderSays t n labels reader l last before (saidColumns r) after
-by-kept {t} {n} {labels} {reader} {l} {last} {before} {numbers} {fields = fields} p e k = by (headed p e) k
+    → KeepSays labels reader numbers fields before r after → HeaderSays t n labels reader l last before (said_columns r) after
+by_kept {t} {n} {labels} {reader} {l} {last} {before} {numbers} {fields = fields} p e k = by (headed p e) k
   where
     by : {r : Columns} {after : List Bool} → Headed t n l last fields numbers → KeepSays labels reader numbers fields before r after
-        → HeaderSays t n labels reader l last before (saidColumns r) after
+        → HeaderSays t n labels reader l last before (said_columns r) after
     by head (roomless h) = no_room head.header head.names (omega (arith, head.count))
     by head (covers {after = after} h w) =
-        subst (HeaderSays t n labels reader l last before (saidKept fields)) (sym (covered-rest w))
-        (subst (λ (k : ℕ). HeaderSays t n labels reader l last before (saidKept k) (take fields after ++ drop k before)) (sym head.count)
-        (keeps head.header head.names (omega (arith, head.count)) (covered-front w t n head.fields head.count h head.items)))
+        subst (HeaderSays t n labels reader l last before (said_kept fields)) (sym (covered_rest w))
+        (subst (λ (k : ℕ). HeaderSays t n labels reader l last before (said_kept k) (take fields after ++ drop k before)) (sym head.count)
+        (keeps head.header head.names (omega (arith, head.count)) (covered_front w t n head.fields head.count h head.items)))

@@ -9,13 +9,13 @@ use native.Mathlib.Omega.{arith}
 use lib.ListN.{length, take, drop, length-append}
 use lib.Seq.{take_at}
 use Rattle.classes.specs.declared.Class.{Class}
-use Rattle.labels.specs.Labels.{labelsIn}
+use Rattle.labels.specs.Labels.{labels_in}
 use Rattle.rules.specs.declared.Head.{Head}
 use Rattle.refusals.specs.Said.{Said, success, refused}
 use Rattle.records.specs.Rows.{whole}
 use Rattle.exports.specs.Names.{HeaderOk, KeepsCovered}
-use Rattle.columns.specs.Columns.{saidKept, header_at, HeaderSays, bad-header, more-header, bad-names, no_room, keeps}
-use Rattle.columns.specs.Columns.{ColumnsSays, bad-items, few-labels, bad-label, headed}
+use Rattle.columns.specs.Columns.{said_kept, header_at, HeaderSays, bad_header, more_header, bad_names, no_room, keeps}
+use Rattle.columns.specs.Columns.{ColumnsSays, bad_items, few_labels, bad_label, headed}
 
 -- A header by which k columns are kept, with this in the buffer.
 pub record KeptBy (t : List ℕ) (n : ℕ) (labels : ℕ → Class) (reader : Class) (l : List ℕ) (last : Bool) (k : ℕ)
@@ -37,13 +37,13 @@ abbrev BySaid : List ℕ → ℕ → (ℕ → Class) → Class → List ℕ → 
 BySaid t n labels reader l last after (success c values) = ByValues t n labels reader l last after values
 BySaid t n labels reader l last after (refused number place) = Unit {0}
 
-by-header : {t : List ℕ} {n : ℕ} {labels : ℕ → Class} {reader : Class} {l : List ℕ} {last : Bool} {before : List Bool} {s : Said}
+by_header : {t : List ℕ} {n : ℕ} {labels : ℕ → Class} {reader : Class} {l : List ℕ} {last : Bool} {before : List Bool} {s : Said}
     {after : List Bool} → HeaderSays t n labels reader l last before s after → BySaid t n labels reader l last after s
-by-header (bad-header e) = tt
-by-header (more-header e) = tt
-by-header (bad-names e b) = tt
-by-header (no_room e g h) = tt
-by-header {before = before} (keeps {fs = fs} {k = k} {kept = kept} e g h c) = record {
+by_header (bad_header e) = tt
+by_header (more_header e) = tt
+by_header (bad_names e b) = tt
+by_header (no_room e g h) = tt
+by_header {before = before} (keeps {fs = fs} {k = k} {kept = kept} e g h c) = record {
   fields = fs;
   bytes = k;
   header = e;
@@ -53,16 +53,16 @@ by-header {before = before} (keeps {fs = fs} {k = k} {kept = kept} e g h c) = re
   covered = rw (take_at kept (drop (length fs) before) (length fs) c.columns) c;
 }
 
-by-columns : {t : List ℕ} {h : Head} {levels marks : List ℕ} {reader : Class} {l : List ℕ} {last : Bool} {before : List Bool} {s : Said}
+by_columns : {t : List ℕ} {h : Head} {levels marks : List ℕ} {reader : Class} {l : List ℕ} {last : Bool} {before : List Bool} {s : Said}
     {after : List Bool} → ColumnsSays t h levels marks reader l last before s after
-    → BySaid t h.items (labelsIn levels marks) reader l last after s
-by-columns (bad-items b) = tt
-by-columns (few-labels o b) = tt
-by-columns (bad-label o r f) = tt
-by-columns (headed o r f p) = by-header p
+    → BySaid t h.items (labels_in levels marks) reader l last after s
+by_columns (bad_items b) = tt
+by_columns (few_labels o b) = tt
+by_columns (bad_label o r f) = tt
+by_columns (headed o r f p) = by_header p
 
 -- What is said where the answer is that there are k columns.
-pub columns-kept : {t : List ℕ} {h : Head} {levels marks : List ℕ} {reader : Class} {l : List ℕ} {last : Bool} {before : List Bool} {k : ℕ}
-    {after : List Bool} → ColumnsSays t h levels marks reader l last before (saidKept k) after
-    → KeptBy t h.items (labelsIn levels marks) reader l last k after
-columns-kept p = by-columns p
+pub columns_kept : {t : List ℕ} {h : Head} {levels marks : List ℕ} {reader : Class} {l : List ℕ} {last : Bool} {before : List Bool} {k : ℕ}
+    {after : List Bool} → ColumnsSays t h levels marks reader l last before (said_kept k) after
+    → KeptBy t h.items (labels_in levels marks) reader l last k after
+columns_kept p = by_columns p

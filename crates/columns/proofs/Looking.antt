@@ -13,17 +13,17 @@ use lib.Seq.{get_or-set_same, get_or-set_other}
 use types.Run.{OneOf}
 use denote.Enum as enum
 use Rattle.laws.specs.Tells.{Tells}
-use Rattle.laws.proofs.Bools.{true-not-false}
-use Rattle.laws.proofs.Tells.{tells-no, tells-yes}
-use Rattle.items.specs.Lookup.{findIn}
+use Rattle.laws.proofs.Bools.{true_not_false}
+use Rattle.laws.proofs.Tells.{tells_no, tells_yes}
+use Rattle.items.specs.Lookup.{find_in}
 use Rattle.items.specs.declared.Found.{Found}
 use Rattle.items.specs.contracts.Found as found
-use Rattle.items.proofs.Entries.{found-bytes}
-use Rattle.records.specs.Fields.{field_at, fieldLen}
-use Rattle.records.specs.Rows.{start_at, nthField}
-use Rattle.records.specs.Inner.{FieldSpan, fieldsTo}
-use Rattle.records.proofs.Parts.{fields-count, fields_at}
-use Rattle.exports.specs.Names.{unquoted, nameIn, columnItem}
+use Rattle.items.proofs.Entries.{found_bytes}
+use Rattle.records.specs.Fields.{field_at, field_len}
+use Rattle.records.specs.Rows.{start_at, nth_field}
+use Rattle.records.specs.Inner.{FieldSpan, fields_to}
+use Rattle.records.proofs.Parts.{fields_count, fields_at}
+use Rattle.exports.specs.Names.{unquoted, name_in, column_item}
 use Rattle.columns.specs.Inner.{IsField, HoldsNumber, HeaderReady, FindsItems}
 
 -- The other variants are no At.
@@ -35,14 +35,14 @@ not_found x h i e = other (subst (λ (y : Found). OneOf (1 ∷ 2 ∷ []) (enum.D
     other (inr d) = omega arith
 
 -- Two names that are found at one item are equal.
-one_name : (t : List ℕ) (n : ℕ) (x y : List ℕ) (i : ℕ) → findIn t n x ≡ Found.At i → findIn t n y ≡ Found.At i → x ≡ y
-one_name t n x y i e d = sym (found-bytes t n x i e) ∙ found-bytes t n y i d
+one_name : (t : List ℕ) (n : ℕ) (x y : List ℕ) (i : ℕ) → find_in t n x ≡ Found.At i → find_in t n y ≡ Found.At i → x ≡ y
+one_name t n x y i e d = sym (found_bytes t n x i e) ∙ found_bytes t n y i d
 
 -- c names are looked up.
 pub record Looking (t : List ℕ) (n : ℕ) (l ends : List ℕ) (fields : ℕ) (numbers₀ numbers : List ℕ) (c : ℕ) : Type 0 where
   pub ready : HeaderReady l ends fields numbers₀
   pub sized : length numbers ≡ length numbers₀
-  pub items : (j : ℕ) → j < c → columnItem t n (fieldsTo l 0 ends fields) j ≡ Found.At (get_or numbers j 0)
+  pub items : (j : ℕ) → j < c → column_item t n (fields_to l 0 ends fields) j ≡ Found.At (get_or numbers j 0)
   pub apart : (i j : ℕ) → i < j → j < c → get_or numbers i 0 ≡ get_or numbers j 0 → ⊥
 
 -- No name is looked up.
@@ -58,79 +58,79 @@ look_none r = record {
 module _ {t : List ℕ} {n : ℕ} {l ends : List ℕ} {fields : ℕ} {numbers₀ numbers : List ℕ} {c : ℕ}
     (w : Looking t n l ends fields numbers₀ numbers c) where
   abbrev fs : List (List ℕ)
-  fs = fieldsTo l 0 ends fields
+  fs = fields_to l 0 ends fields
 
-  count : length (fieldsTo l 0 ends fields) ≡ fields
-  count = fields-count l 0 ends fields
+  count : length (fields_to l 0 ends fields) ≡ fields
+  count = fields_count l 0 ends fields
 
   -- All names are looked up.
-  pub look-all : fields ≤ c → FindsItems t n (fieldsTo l 0 ends fields) true numbers
-  look-all h = record {
-    told = tells-yes (record { known = λ j g. record { item = get_or numbers j 0; found = item j g }; distinct = apart });
+  pub look_all : fields ≤ c → FindsItems t n (fields_to l 0 ends fields) true numbers
+  look_all h = record {
+    told = tells_yes (record { known = λ j g. record { item = get_or numbers j 0; found = item j g }; distinct = apart });
     items = λ z. record { each = item };
   }
     where
-      item : (j : ℕ) → j < length (fieldsTo l 0 ends fields) → columnItem t n (fieldsTo l 0 ends fields) j ≡ Found.At (get_or numbers j 0)
+      item : (j : ℕ) → j < length (fields_to l 0 ends fields) → column_item t n (fields_to l 0 ends fields) j ≡ Found.At (get_or numbers j 0)
       item j g = w.items j (omega (arith, count))
 
       same_item : (i k : ℕ) → Found.At i ≡ Found.At k → i ≡ k
       same_item i k e = cc
 
-      apart : (i j : ℕ) → i < j → j < length (fieldsTo l 0 ends fields)
-          → nameIn (fieldsTo l 0 ends fields) i ≡ nameIn (fieldsTo l 0 ends fields) j → ⊥
+      apart : (i j : ℕ) → i < j → j < length (fields_to l 0 ends fields)
+          → name_in (fields_to l 0 ends fields) i ≡ name_in (fields_to l 0 ends fields) j → ⊥
       apart i j g k e =
           w.apart i j g (omega (arith, count))
-          (same_item (get_or numbers i 0) (get_or numbers j 0) (sym (item i (omega arith)) ∙ ap (findIn t n) e ∙ item j k))
+          (same_item (get_or numbers i 0) (get_or numbers j 0) (sym (item i (omega arith)) ∙ ap (find_in t n) e ∙ item j k))
 
   module _ (h : c < fields) where
     -- There is room for the item of the next field.
-    pub look-room : c < length numbers
-    look-room = omega (arith, w.sized, w.ready.room)
+    pub look_room : c < length numbers
+    look_room = omega (arith, w.sized, w.ready.room)
 
-    pub look-held : c ≤ length numbers
-    look-held = omega (arith, look-room)
+    pub look_held : c ≤ length numbers
+    look_held = omega (arith, look_room)
 
     span : FieldSpan l (start_at 0 ends c) (get_or ends c 0)
     span = w.ready.spans.each c h
 
-    pub look-field : {x : List ℕ} → x ≡ nthField l 0 ends c → IsField x
-    look-field e = record {
+    pub look_field : {x : List ℕ} → x ≡ nth_field l 0 ends c → IsField x
+    look_field e = record {
       text = drop (start_at 0 ends c) l;
       is =
           e
           ∙ ap (λ (k : ℕ). take k (drop (start_at 0 ends c) l))
-          (let k : get_or ends c 0 - start_at 0 ends c ≡ fieldLen (field_at (drop (start_at 0 ends c) l)) = omega (arith, span.end) in k);
+          (let k : get_or ends c 0 - start_at 0 ends c ≡ field_len (field_at (drop (start_at 0 ends c) l)) = omega (arith, span.end) in k);
     }
 
-    module _ {name : List ℕ} (is : name ≡ nthField l 0 ends c) {x : Found} (g : x ≡ findIn t n (unquoted name)) where
-      column : columnItem t n (fieldsTo l 0 ends fields) c ≡ x
-      column = ap (λ (y : List ℕ). findIn t n (unquoted y)) (fields_at l 0 ends fields c h ∙ sym is) ∙ sym g
+    module _ {name : List ℕ} (is : name ≡ nth_field l 0 ends c) {x : Found} (g : x ≡ find_in t n (unquoted name)) where
+      column : column_item t n (fields_to l 0 ends fields) c ≡ x
+      column = ap (λ (y : List ℕ). find_in t n (unquoted y)) (fields_at l 0 ends fields c h ∙ sym is) ∙ sym g
 
       -- A name that is no item.
-      pub look-absent : OneOf (1 ∷ 2 ∷ []) (enum.Declared.tag_of found.the_type x) → FindsItems t n (fieldsTo l 0 ends fields) false numbers
-      look-absent o = record {
-        told = tells-no (λ ok. let known = ok.known c (omega (arith, count)) in not_found x o known.item (sym column ∙ known.found));
-        items = λ z. absurd (true-not-false z refl);
+      pub look_absent : OneOf (1 ∷ 2 ∷ []) (enum.Declared.tag_of found.the_type x) → FindsItems t n (fields_to l 0 ends fields) false numbers
+      look_absent o = record {
+        told = tells_no (λ ok. let known = ok.known c (omega (arith, count)) in not_found x o known.item (sym column ∙ known.found));
+        items = λ z. absurd (true_not_false z refl);
       }
 
       module _ {i : ℕ} (a : x ≡ Found.At i) {b : Bool} (told : Tells (HoldsNumber numbers c i) b) where
         -- A name that is repeated.
-        pub look-repeated : b ≡ true → FindsItems t n (fieldsTo l 0 ends fields) false numbers
-        look-repeated e = record {
+        pub look_repeated : b ≡ true → FindsItems t n (fields_to l 0 ends fields) false numbers
+        look_repeated e = record {
           told =
-              tells-no
+              tells_no
               (λ ok.
               ok.distinct s.place c s.below (omega (arith, count))
-              (one_name t n (nameIn fs s.place) (nameIn fs c) i (w.items s.place s.below ∙ ap Found.At s.same) (column ∙ a)));
-          items = λ z. absurd (true-not-false z refl);
+              (one_name t n (name_in fs s.place) (name_in fs c) i (w.items s.place s.below ∙ ap Found.At s.same) (column ∙ a)));
+          items = λ z. absurd (true_not_false z refl);
         }
           where
             s : HoldsNumber numbers c i
             s = told.holds e
 
         -- A new name.
-        pub look-more : b ≡ false → Looking t n l ends fields numbers₀ (set numbers c i) (c + 1)
-        look-more e = record {
+        pub look_more : b ≡ false → Looking t n l ends fields numbers₀ (set numbers c i) (c + 1)
+        look_more e = record {
           ready = w.ready;
           sized = length-set numbers c i ∙ w.sized;
           items = λ j k. item j k (dec_le c j);
@@ -138,12 +138,12 @@ module _ {t : List ℕ} {n : ℕ} {l ends : List ℕ} {fields : ℕ} {numbers₀
         }
           where
             here : get_or (set numbers c i) c 0 ≡ i
-            here = get_or-set_same numbers c i 0 look-room
+            here = get_or-set_same numbers c i 0 look_room
 
             there : (j : ℕ) → j < c → get_or (set numbers c i) j 0 ≡ get_or numbers j 0
             there j k = get_or-set_other numbers c j i 0 (λ z. omega arith)
 
-            item : (j : ℕ) → j < c + 1 → Dec (c ≤ j) → columnItem t n (fieldsTo l 0 ends fields) j ≡ Found.At (get_or (set numbers c i) j 0)
+            item : (j : ℕ) → j < c + 1 → Dec (c ≤ j) → column_item t n (fields_to l 0 ends fields) j ≡ Found.At (get_or (set numbers c i) j 0)
             item j k (yes m) = let z : j ≡ c = omega arith in rw (z, here) (column ∙ a)
             item j k (no m) = w.items j (omega arith) ∙ ap Found.At (sym (there j (omega arith)))
 

@@ -1,12 +1,12 @@
 // The header of an export: its names, each of them an item, and which of its columns a class covers.
 ghost use Rattle.std.specs.Prelude.{◌≡◌, ◌≤◌, length};
 ghost use Rattle.laws.specs.Tells.{Tells};
-ghost use Rattle.items.specs.Lookup.{findIn};
-ghost use Rattle.labels.specs.Labels.{labelsIn};
-ghost use Rattle.records.specs.Inner.{fieldsTo};
+ghost use Rattle.items.specs.Lookup.{find_in};
+ghost use Rattle.labels.specs.Labels.{labels_in};
+ghost use Rattle.records.specs.Inner.{fields_to};
 ghost use Rattle.exports.specs.Names.{unquoted};
-ghost use Rattle.columns.specs.Columns.{saidColumns, HeaderSays};
-ghost use Rattle.columns.specs.Inner.{refusedFor, IsField, Quoted, HoldsNumber, NumberRoom, HeaderReady, FindsItems, HeadSays, CoverReady, Covering, KeepSays};
+ghost use Rattle.columns.specs.Columns.{said_columns, HeaderSays};
+ghost use Rattle.columns.specs.Inner.{refused_for, IsField, Quoted, HoldsNumber, NumberRoom, HeaderReady, FindsItems, HeadSays, CoverReady, Covering, KeepSays};
 
 use crate::Columns;
 use classes::Class;
@@ -18,7 +18,7 @@ use scans::QUOTE;
 
 // A refusal.
 pub(crate) fn refused(fault: Fault, place: u64) -> Columns
-    ensures { result ≡ refusedFor fault place }
+    ensures { result ≡ refused_for fault place }
 {
     Columns::Refused(Refusal { fault, place })
 }
@@ -34,7 +34,7 @@ pub(crate) fn by_header(
     last: bool,
     kept: &mut [bool],
 ) -> Columns
-    ensures { HeaderSays items.now n (labelsIn levels.now marks.now) reader export.now last kept.old (saidColumns result) kept.new }
+    ensures { HeaderSays items.now n (labels_in levels.now marks.now) reader export.now last kept.old (said_columns result) kept.new }
 {
     let mut numbers = [0u64; MOST_FIELDS];
     let found = read_header(items, n, export, last, &mut numbers);
@@ -77,7 +77,7 @@ fn find_items(
     numbers: &mut [u64],
 ) -> bool
     requires { HeaderReady export.now ends.now fields numbers.old }
-    ensures { FindsItems items.now n (fieldsTo export.now 0 ends.now fields) result numbers.new }
+    ensures { FindsItems items.now n (fields_to export.now 0 ends.now fields) result numbers.new }
 {
     let mut c = 0;
     while c < fields {
@@ -96,7 +96,7 @@ fn find_items(
 // The item that a field names, its outer quotes off. A doubled quote stays as it is: no name has a quote, single or doubled.
 fn item_named(items: &[u8], n: usize, field: &[u8]) -> Found
     requires { IsField field.now }
-    ensures { result ≡ findIn items.now n (unquoted field.now) }
+    ensures { result ≡ find_in items.now n (unquoted field.now) }
 {
     if is_quoted(field) {
         let end = field.len() - 1;
@@ -140,7 +140,7 @@ fn keep(
     kept: &mut [bool],
 ) -> Columns
     requires { fields ≤ length numbers.now }
-    ensures { KeepSays (labelsIn levels.now marks.now) reader numbers.now fields kept.old result kept.new }
+    ensures { KeepSays (labels_in levels.now marks.now) reader numbers.now fields kept.old result kept.new }
 {
     if kept.len() < fields {
         return refused(Fault::NoRoom, 0);
@@ -159,7 +159,7 @@ fn cover(
     kept: &mut [bool],
 )
     requires { CoverReady numbers.now fields kept.old }
-    ensures { Covering (labelsIn levels.now marks.now) reader numbers.now fields kept.old kept.new }
+    ensures { Covering (labels_in levels.now marks.now) reader numbers.now fields kept.old kept.new }
 {
     let mut c = 0;
     while c < fields {

@@ -2,8 +2,8 @@
 mod header;
 
 ghost use Rattle.std.specs.Prelude.{◌≡◌};
-ghost use Rattle.columns.specs.Reader.{saidReader, noClass, ReaderSays};
-ghost use Rattle.columns.specs.Columns.{saidColumns, ColumnsSays};
+ghost use Rattle.columns.specs.Reader.{said_reader, no_class, ReaderSays};
+ghost use Rattle.columns.specs.Columns.{said_columns, ColumnsSays};
 
 use classes::Class;
 use header::{by_header, refused};
@@ -14,14 +14,14 @@ use rules::Head;
 use tokens::{ReadClass, read_class};
 
 // A reader's class, or a refusal.
-#[derive(Drop)]
+#[derive(Clone, Copy)]
 pub enum Reader {
     Known(Class),
     Refused(Refusal),
 }
 
 // What is found of the columns: their number, of which some are kept; that the text ends before the header does; or a refusal.
-#[derive(Drop)]
+#[derive(Clone, Copy)]
 pub enum Columns {
     Kept(usize),
     More,
@@ -30,7 +30,7 @@ pub enum Columns {
 
 // BadLabel at 0 where the text is not exactly a class; else the class.
 pub fn reader_class(text: &[u8]) -> Reader
-    ensures { ReaderSays text.now (saidReader result) }
+    ensures { ReaderSays text.now (said_reader result) }
 {
     let ReadClass::Found(token) = read_class(text, 0) else {
         return no_class();
@@ -44,7 +44,7 @@ pub fn reader_class(text: &[u8]) -> Reader
 
 // The refusal of a text that is no class.
 fn no_class() -> Reader
-    ensures { result ≡ noClass }
+    ensures { result ≡ no_class }
 {
     Reader::Refused(Refusal {
         fault: Fault::BadLabel,
@@ -66,7 +66,7 @@ pub fn kept_columns(
     last: bool,
     kept: &mut [bool],
 ) -> Columns
-    ensures { ColumnsSays items.now head levels.now marks.now reader export.now last kept.old (saidColumns result) kept.new }
+    ensures { ColumnsSays items.now head levels.now marks.now reader export.now last kept.old (said_columns result) kept.new }
 {
     let n = head.items;
     if !items_ok(items, n) {

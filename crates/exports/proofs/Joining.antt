@@ -7,68 +7,68 @@ use mathlib.Core.List.{List, [], ◌∷◌, ◌++◌, append_assoc, append-nil}
 use Prim.Native.Nat.{ℕ, ◌<◌}
 use native.Mathlib.Omega.{arith}
 use lib.ListN.{length, get_or}
-use Rattle.exports.specs.Text.{keptOf, commaed, withCommas, recordLine, recordLines}
+use Rattle.exports.specs.Text.{kept_of, commaed, with_commas, record_line, record_lines}
 use Rattle.scans.specs.Ascii.{comma}
 
 -- Each field with a comma behind it, one after the other.
-unfoldable pub closedEach : List (List ℕ) → List ℕ
-closedEach [] = []
-closedEach (f ∷ fs) = f ++ comma ∷ closedEach fs
+unfoldable pub closed_each : List (List ℕ) → List ℕ
+closed_each [] = []
+closed_each (f ∷ fs) = f ++ comma ∷ closed_each fs
 
 -- No field, no record.
-pub closed_none : closedEach [] ≡ []
-unfolding closedEach
+pub closed_none : closed_each [] ≡ []
+unfolding closed_each
 closed_none = refl
 
-pub kept-none : (ks : List Bool) → keptOf ks [] ≡ []
-unfolding keptOf
-kept-none [] = refl
-kept-none (k ∷ ks) = refl
+pub kept_none : (ks : List Bool) → kept_of ks [] ≡ []
+unfolding kept_of
+kept_none [] = refl
+kept_none (k ∷ ks) = refl
 
-pub lines_none : (kept : List Bool) → recordLines kept [] ≡ []
-unfolding recordLines
+pub lines_none : (kept : List Bool) → record_lines kept [] ≡ []
+unfolding record_lines
 lines_none kept = refl
 
 -- One more field.
-pub closed-one-more : (gs : List (List ℕ)) (f : List ℕ) → closedEach (gs ++ f ∷ []) ≡ closedEach gs ++ f ++ comma ∷ []
-unfolding closedEach
-closed-one-more [] f = refl
-closed-one-more (g ∷ gs) f = ap (λ r. g ++ comma ∷ r) (closed-one-more gs f) ∙ simp append_assoc
+pub closed_one_more : (gs : List (List ℕ)) (f : List ℕ) → closed_each (gs ++ f ∷ []) ≡ closed_each gs ++ f ++ comma ∷ []
+unfolding closed_each
+closed_one_more [] f = refl
+closed_one_more (g ∷ gs) f = ap (λ r. g ++ comma ∷ r) (closed_one_more gs f) ∙ simp append_assoc
 
 -- The same with a comma before each field.
-comma-behind : (fs : List (List ℕ)) → comma ∷ closedEach fs ≡ commaed fs ++ comma ∷ []
-unfolding closedEach commaed
-comma-behind [] = refl
-comma-behind (f ∷ fs) = ap (λ r. comma ∷ r) (ap (λ r. f ++ r) (comma-behind fs) ∙ sym (append_assoc f (commaed fs) (comma ∷ [])))
+comma_behind : (fs : List (List ℕ)) → comma ∷ closed_each fs ≡ commaed fs ++ comma ∷ []
+unfolding closed_each commaed
+comma_behind [] = refl
+comma_behind (f ∷ fs) = ap (λ r. comma ∷ r) (ap (λ r. f ++ r) (comma_behind fs) ∙ sym (append_assoc f (commaed fs) (comma ∷ [])))
 
 -- Without the last comma they are withCommas.
-pub closed-commas : (gs : List (List ℕ)) → 0 < length gs → closedEach gs ≡ withCommas gs ++ comma ∷ []
-unfolding closedEach withCommas
-closed-commas [] h = absurd (omega arith)
-closed-commas (f ∷ fs) h = ap (λ r. f ++ r) (comma-behind fs) ∙ sym (append_assoc f (commaed fs) (comma ∷ []))
+pub closed_commas : (gs : List (List ℕ)) → 0 < length gs → closed_each gs ≡ with_commas gs ++ comma ∷ []
+unfolding closed_each with_commas
+closed_commas [] h = absurd (omega arith)
+closed_commas (f ∷ fs) h = ap (λ r. f ++ r) (comma_behind fs) ∙ sym (append_assoc f (commaed fs) (comma ∷ []))
 
 -- One more field of a record, kept or not.
-pub kept-one-more : (ks : List Bool) (fs : List (List ℕ)) (f : List ℕ) → length fs < length ks
-    → keptOf ks (fs ++ f ∷ []) ≡ keptOf ks fs ++ cond (get_or ks (length fs) false) (f ∷ []) []
-unfolding keptOf
-kept-one-more [] fs f h = absurd (omega arith)
-kept-one-more (true ∷ []) [] f h = refl
-kept-one-more (false ∷ []) [] f h = refl
-kept-one-more (true ∷ k ∷ ks) [] f h = refl
-kept-one-more (false ∷ k ∷ ks) [] f h = refl
-kept-one-more (true ∷ ks) (g ∷ fs) f h = ap (λ r. g ∷ r) (kept-one-more ks fs f (omega arith))
-kept-one-more (false ∷ ks) (g ∷ fs) f h = kept-one-more ks fs f (omega arith)
+pub kept_one_more : (ks : List Bool) (fs : List (List ℕ)) (f : List ℕ) → length fs < length ks
+    → kept_of ks (fs ++ f ∷ []) ≡ kept_of ks fs ++ cond (get_or ks (length fs) false) (f ∷ []) []
+unfolding kept_of
+kept_one_more [] fs f h = absurd (omega arith)
+kept_one_more (true ∷ []) [] f h = refl
+kept_one_more (false ∷ []) [] f h = refl
+kept_one_more (true ∷ k ∷ ks) [] f h = refl
+kept_one_more (false ∷ k ∷ ks) [] f h = refl
+kept_one_more (true ∷ ks) (g ∷ fs) f h = ap (λ r. g ∷ r) (kept_one_more ks fs f (omega arith))
+kept_one_more (false ∷ ks) (g ∷ fs) f h = kept_one_more ks fs f (omega arith)
 
 -- The lines of records one behind the other.
-pub lines-append : (kept : List Bool) (a b : List (List (List ℕ))) → recordLines kept (a ++ b) ≡ recordLines kept a ++ recordLines kept b
-unfolding recordLines
-lines-append kept [] b = refl
-lines-append kept (fs ∷ a) b =
-    ap (λ r. recordLine kept fs ++ r) (lines-append kept a b)
-    ∙ sym (append_assoc (recordLine kept fs) (recordLines kept a) (recordLines kept b))
+pub lines_append : (kept : List Bool) (a b : List (List (List ℕ))) → record_lines kept (a ++ b) ≡ record_lines kept a ++ record_lines kept b
+unfolding record_lines
+lines_append kept [] b = refl
+lines_append kept (fs ∷ a) b =
+    ap (λ r. record_line kept fs ++ r) (lines_append kept a b)
+    ∙ sym (append_assoc (record_line kept fs) (record_lines kept a) (record_lines kept b))
 
 -- One more record.
-pub lines-one-more : (kept : List Bool) (rows : List (List (List ℕ))) (fs : List (List ℕ))
-    → recordLines kept (rows ++ fs ∷ []) ≡ recordLines kept rows ++ recordLine kept fs
-unfolding recordLines
-lines-one-more kept rows fs = lines-append kept rows (fs ∷ []) ∙ ap (λ r. recordLines kept rows ++ r) (append-nil (recordLine kept fs))
+pub lines_one_more : (kept : List Bool) (rows : List (List (List ℕ))) (fs : List (List ℕ))
+    → record_lines kept (rows ++ fs ∷ []) ≡ record_lines kept rows ++ record_line kept fs
+unfolding record_lines
+lines_one_more kept rows fs = lines_append kept rows (fs ∷ []) ∙ ap (λ r. record_lines kept rows ++ r) (append-nil (record_line kept fs))

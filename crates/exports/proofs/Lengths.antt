@@ -10,46 +10,46 @@ use native.Mathlib.Omega.{arith}
 use lib.ListN.{length, take, drop, length-take, length-drop, length-append, drop_of_length-le}
 use Rattle.scans.specs.Ascii.{cr, lf}
 use Rattle.records.specs.Fields.{field_at}
-use Rattle.records.specs.Rows.{Row, line, bare, halved, cut, broken, fieldBefore, rowFrom, row_of, Record, whole, more, bad, fewBytes, lineEnd, judged, recordAt}
+use Rattle.records.specs.Rows.{Row, line, bare, halved, cut, broken, field_before, row_from, row_of, Record, whole, more, bad, few_bytes, line_end, judged, record_at}
 use Rattle.records.specs.declared.Field.{Field}
 use Rattle.records.proofs.Whole.{RowLies, row_lies}
-use Rattle.exports.specs.Rows.{recordOf, takeOn, takenFrom, taken}
-use Rattle.exports.specs.Text.{keptOf, commaed, withCommas, recordLine, recordLines}
-use Rattle.exports.proofs.Fitting.{fitted, record-within}
+use Rattle.exports.specs.Rows.{record_of, take_on, taken_from, taken}
+use Rattle.exports.specs.Text.{kept_of, commaed, with_commas, record_line, record_lines}
+use Rattle.exports.proofs.Fitting.{fitted, record_within}
 use Rattle.exports.proofs.Taking.{from_nothing}
 
 -- Fields with a comma before each have at most one comma more.
-commaed-most : (fs : List (List ℕ)) → length (commaed fs) ≤ 1 + length (withCommas fs)
-unfolding commaed withCommas
-commaed-most [] = zero-le
-commaed-most (f ∷ fs) = omega arith
+commaed_most : (fs : List (List ℕ)) → length (commaed fs) ≤ 1 + length (with_commas fs)
+unfolding commaed with_commas
+commaed_most [] = zero-le
+commaed_most (f ∷ fs) = omega arith
 
 -- Fewer fields are no longer.
-commaed-kept : (ks : List Bool) (fs : List (List ℕ)) → length (commaed (keptOf ks fs)) ≤ length (commaed fs)
-unfolding commaed keptOf
-commaed-kept [] fs = zero-le
-commaed-kept (k ∷ ks) [] = zero-le
-commaed-kept (true ∷ ks) (f ∷ fs) =
-    omega (arith, length-append f (commaed (keptOf ks fs)), length-append f (commaed fs), commaed-kept ks fs)
-commaed-kept (false ∷ ks) (f ∷ fs) = omega (arith, length-append f (commaed fs), commaed-kept ks fs)
+commaed_kept : (ks : List Bool) (fs : List (List ℕ)) → length (commaed (kept_of ks fs)) ≤ length (commaed fs)
+unfolding commaed kept_of
+commaed_kept [] fs = zero-le
+commaed_kept (k ∷ ks) [] = zero-le
+commaed_kept (true ∷ ks) (f ∷ fs) =
+    omega (arith, length-append f (commaed (kept_of ks fs)), length-append f (commaed fs), commaed_kept ks fs)
+commaed_kept (false ∷ ks) (f ∷ fs) = omega (arith, length-append f (commaed fs), commaed_kept ks fs)
 
-with-commas-less : (fs : List (List ℕ)) → length (withCommas fs) ≤ length (commaed fs)
-unfolding commaed withCommas
-with-commas-less [] = zero-le
-with-commas-less (f ∷ fs) = omega arith
+with_commas_less : (fs : List (List ℕ)) → length (with_commas fs) ≤ length (commaed fs)
+unfolding commaed with_commas
+with_commas_less [] = zero-le
+with_commas_less (f ∷ fs) = omega arith
 
-kept-most : (ks : List Bool) (fs : List (List ℕ)) → length (withCommas (keptOf ks fs)) ≤ length (withCommas fs)
-unfolding commaed withCommas keptOf
-kept-most [] fs = zero-le
-kept-most (k ∷ ks) [] = zero-le
-kept-most (true ∷ ks) (f ∷ fs) =
-    omega (arith, length-append f (commaed (keptOf ks fs)), length-append f (commaed fs), commaed-kept ks fs)
-kept-most (false ∷ ks) (f ∷ fs) =
-    omega (arith, length-append f (commaed fs), commaed-kept ks fs, with-commas-less (keptOf ks fs))
+kept_most : (ks : List Bool) (fs : List (List ℕ)) → length (with_commas (kept_of ks fs)) ≤ length (with_commas fs)
+unfolding commaed with_commas kept_of
+kept_most [] fs = zero-le
+kept_most (k ∷ ks) [] = zero-le
+kept_most (true ∷ ks) (f ∷ fs) =
+    omega (arith, length-append f (commaed (kept_of ks fs)), length-append f (commaed fs), commaed_kept ks fs)
+kept_most (false ∷ ks) (f ∷ fs) =
+    omega (arith, length-append f (commaed fs), commaed_kept ks fs, with_commas_less (kept_of ks fs))
 
 -- The fields of a row of n bytes, and how many there are at most.
 record RowHolds (most : ℕ) (fs : List (List ℕ)) (n : ℕ) : Type 0 where
-  bytes : length (withCommas fs) ≤ n
+  bytes : length (with_commas fs) ≤ n
   few : length fs ≤ most
 
 abbrev Holds : ℕ → Row → Type 0
@@ -60,29 +60,29 @@ Holds most cut = Unit {0}
 Holds most broken = Unit {0}
 
 one_field : (most n : ℕ) (l : List ℕ) → RowHolds (suc most) (take n l ∷ []) n
-unfolding commaed withCommas
+unfolding commaed with_commas
 one_field most n l = record { bytes = omega (arith, length-take n l, length-append (take n l) []); few = omega arith }
 
-more-fields : (most n k : ℕ) (l : List ℕ) (fs : List (List ℕ)) → RowHolds most fs k → RowHolds (suc most) (take n l ∷ fs) (n + 1 + k)
-unfolding withCommas
-more-fields most n k l fs h = record {
-  bytes = omega (arith, length-take n l, length-append (take n l) (commaed fs), commaed-most fs, h.bytes);
+more_fields : (most n k : ℕ) (l : List ℕ) (fs : List (List ℕ)) → RowHolds most fs k → RowHolds (suc most) (take n l ∷ fs) (n + 1 + k)
+unfolding with_commas
+more_fields most n k l fs h = record {
+  bytes = omega (arith, length-take n l, length-append (take n l) (commaed fs), commaed_most fs, h.bytes);
   few = omega (arith, h.few);
 }
 
-row-holds : (most : ℕ) (l : List ℕ) → Holds most (row_of most l)
+row_holds : (most : ℕ) (l : List ℕ) → Holds most (row_of most l)
 unfolding row_of
-row-holds zero l = tt
-row-holds (suc most) l = by (field_at l) (λ n. row-holds most (drop (n + 1) l))
+row_holds zero l = tt
+row_holds (suc most) l = by (field_at l) (λ n. row_holds most (drop (n + 1) l))
   where
-    before : (n : ℕ) (r : Row) → Holds most r → Holds (suc most) (fieldBefore (take n l) n r)
-    before n (line fs k) h = more-fields most n k l fs h
-    before n (bare fs k) h = more-fields most n k l fs h
+    before : (n : ℕ) (r : Row) → Holds most r → Holds (suc most) (field_before (take n l) n r)
+    before n (line fs k) h = more_fields most n k l fs h
+    before n (bare fs k) h = more_fields most n k l fs h
     before n (halved k) h = tt
     before n cut h = tt
     before n broken h = tt
 
-    by : (f : Field) → ((n : ℕ) → Holds most (row_of most (drop (n + 1) l))) → Holds (suc most) (rowFrom (row_of most) l f)
+    by : (f : Field) → ((n : ℕ) → Holds most (row_of most (drop (n + 1) l))) → Holds (suc most) (row_from (row_of most) l f)
     by (Field.Comma n) g = before n (row_of most (drop (n + 1) l)) (g n)
     by (Field.Line n) g = one_field most n l
     by (Field.End n) g = one_field most n l
@@ -92,8 +92,8 @@ row-holds (suc most) l = by (field_at l) (λ n. row-holds most (drop (n + 1) l))
 
 -- The fields of a whole record of k bytes, its line end among them; only the last record of a text may lack it.
 pub record WholeHolds (most : ℕ) (l : List ℕ) (fs : List (List ℕ)) (k : ℕ) : Type 0 where
-  pub bytes : length (withCommas fs) ≤ k
-  pub line : k < length l → length (withCommas fs) + lineEnd ≤ k
+  pub bytes : length (with_commas fs) ≤ k
+  pub line : k < length l → length (with_commas fs) + line_end ≤ k
   pub few : length fs ≤ most
 
 abbrev Says : ℕ → List ℕ → Record → Type 0
@@ -101,68 +101,68 @@ Says most l (whole fs k) = WholeHolds most l fs k
 Says most l more = Unit {0}
 Says most l bad = Unit {0}
 
-says-closed : (t : Bool) (most : ℕ) (l : List ℕ) (fs : List (List ℕ)) (k : ℕ) → WholeHolds most l fs k → Says most l (cond t (whole fs k) bad)
-says-closed true most l fs k h = h
-says-closed false most l fs k h = tt
+says_closed : (t : Bool) (most : ℕ) (l : List ℕ) (fs : List (List ℕ)) (k : ℕ) → WholeHolds most l fs k → Says most l (cond t (whole fs k) bad)
+says_closed true most l fs k h = h
+says_closed false most l fs k h = tt
 
-says-unfinished : (t : Bool) (most : ℕ) (l : List ℕ) → Says most l (cond t more bad)
-says-unfinished true most l = tt
-says-unfinished false most l = tt
+says_unfinished : (t : Bool) (most : ℕ) (l : List ℕ) → Says most l (cond t more bad)
+says_unfinished true most l = tt
+says_unfinished false most l = tt
 
 says : (last : Bool) (most : ℕ) (l : List ℕ) (r : Row) → RowLies (length l) r → Holds most r → Says most l (judged last (length l) r)
 says last most l (line fs k) lies h =
-    says-closed (fewBytes k) most l fs (k + lineEnd) (record { bytes = omega (arith, h.bytes); line = λ i. omega (arith, h.bytes); few = h.few })
+    says_closed (few_bytes k) most l fs (k + line_end) (record { bytes = omega (arith, h.bytes); line = λ i. omega (arith, h.bytes); few = h.few })
 says true most l (bare fs k) lies h =
-    says-closed (fewBytes k) most l fs (k + 0) (record { bytes = omega (arith, h.bytes); line = λ i. absurd (omega (arith, lies.0)); few = h.few })
-says false most l (bare fs k) lies h = says-unfinished (fewBytes k) most l
+    says_closed (few_bytes k) most l fs (k + 0) (record { bytes = omega (arith, h.bytes); line = λ i. absurd (omega (arith, lies.0)); few = h.few })
+says false most l (bare fs k) lies h = says_unfinished (few_bytes k) most l
 says true most l (halved k) lies h = tt
-says false most l (halved k) lies h = says-unfinished (fewBytes k) most l
+says false most l (halved k) lies h = says_unfinished (few_bytes k) most l
 says true most l cut lies h = tt
-says false most l cut lies h = says-unfinished (fewBytes (length l + 1)) most l
+says false most l cut lies h = says_unfinished (few_bytes (length l + 1)) most l
 says last most l broken lies h = tt
 
-pub whole-holds : (last : Bool) (most : ℕ) (l : List ℕ) {fs : List (List ℕ)} {k : ℕ} → recordAt last most l ≡ whole fs k → WholeHolds most l fs k
-unfolding recordAt
-whole-holds last most l e = subst (Says most l) e (says last most l (row_of most l) (row_lies most l) (row-holds most l))
+pub whole_holds : (last : Bool) (most : ℕ) (l : List ℕ) {fs : List (List ℕ)} {k : ℕ} → record_at last most l ≡ whole fs k → WholeHolds most l fs k
+unfolding record_at
+whole_holds last most l e = subst (Says most l) e (says last most l (row_of most l) (row_lies most l) (row_holds most l))
 
 -- The lines of all records that are taken.
 module _ (last : Bool) (kept : List Bool) where
-  from-most : (f : ℕ) (l : List ℕ) → length (recordLines kept (takenFrom f last (length kept) l).rows) ≤ length l + lineEnd
-  unfolding takenFrom recordLines
-  from-most zero l = zero-le
-  from-most (suc f) [] = zero-le
-  from-most (suc f) (b ∷ l) = by (recordOf last (length kept) (b ∷ l)) refl (λ k. from-most f (drop k (b ∷ l)))
+  from_most : (f : ℕ) (l : List ℕ) → length (record_lines kept (taken_from f last (length kept) l).rows) ≤ length l + line_end
+  unfolding taken_from record_lines
+  from_most zero l = zero-le
+  from_most (suc f) [] = zero-le
+  from_most (suc f) (b ∷ l) = by (record_of last (length kept) (b ∷ l)) refl (λ k. from_most f (drop k (b ∷ l)))
     where
-      by : (r : Record) → recordOf last (length kept) (b ∷ l) ≡ r
-          → ((k : ℕ) → length (recordLines kept (takenFrom f last (length kept) (drop k (b ∷ l))).rows) ≤ length (drop k (b ∷ l)) + lineEnd)
-          → length (recordLines kept (takeOn (λ k. takenFrom f last (length kept) (drop k (b ∷ l))) r).rows) ≤ length (b ∷ l) + lineEnd
+      by : (r : Record) → record_of last (length kept) (b ∷ l) ≡ r
+          → ((k : ℕ) → length (record_lines kept (taken_from f last (length kept) (drop k (b ∷ l))).rows) ≤ length (drop k (b ∷ l)) + line_end)
+          → length (record_lines kept (take_on (λ k. taken_from f last (length kept) (drop k (b ∷ l))) r).rows) ≤ length (b ∷ l) + line_end
       by more e ih = zero-le
       by bad e ih = zero-le
       by (whole fs k) e ih = go (dec_le (length (b ∷ l)) k)
         where
           holds : WholeHolds (length kept) (b ∷ l) fs k
-          holds = whole-holds last (length kept) (b ∷ l) (fitted (length kept) (recordAt last (length kept) (b ∷ l)) e)
+          holds = whole_holds last (length kept) (b ∷ l) (fitted (length kept) (record_at last (length kept) (b ∷ l)) e)
 
           rest : List (List (List ℕ))
-          rest = (takenFrom f last (length kept) (drop k (b ∷ l))).rows
+          rest = (taken_from f last (length kept) (drop k (b ∷ l))).rows
 
-          both : length (recordLine kept fs ++ recordLines kept rest) ≡ length (withCommas (keptOf kept fs)) + 2 + length (recordLines kept rest)
+          both : length (record_line kept fs ++ record_lines kept rest) ≡ length (with_commas (kept_of kept fs)) + 2 + length (record_lines kept rest)
           both =
               omega (
                 arith,
-                length-append (recordLine kept fs) (recordLines kept rest),
-                length-append (withCommas (keptOf kept fs)) (cr ∷ lf ∷ []),
+                length-append (record_line kept fs) (record_lines kept rest),
+                length-append (with_commas (kept_of kept fs)) (cr ∷ lf ∷ []),
               )
 
-          go : Dec (length (b ∷ l) ≤ k) → length (recordLine kept fs ++ recordLines kept rest) ≤ length (b ∷ l) + lineEnd
+          go : Dec (length (b ∷ l) ≤ k) → length (record_line kept fs ++ record_lines kept rest) ≤ length (b ∷ l) + line_end
           go (yes h) =
-              omega (arith, both, kept-most kept fs, holds.bytes, record-within (length kept) last (b ∷ l) e, ap length none)
+              omega (arith, both, kept_most kept fs, holds.bytes, record_within (length kept) last (b ∷ l) e, ap length none)
             where
-              none : recordLines kept rest ≡ []
+              none : record_lines kept rest ≡ []
               none =
-                  ap (λ (m : List ℕ). recordLines kept (takenFrom f last (length kept) m).rows) (drop_of_length-le (b ∷ l) h)
-                  ∙ ap (λ t. recordLines kept t.rows) (from_nothing last (length kept) f)
-          go (no h) = omega (arith, both, kept-most kept fs, holds.line (omega arith), ih k, length-drop k (b ∷ l))
+                  ap (λ (m : List ℕ). record_lines kept (taken_from f last (length kept) m).rows) (drop_of_length-le (b ∷ l) h)
+                  ∙ ap (λ t. record_lines kept t.rows) (from_nothing last (length kept) f)
+          go (no h) = omega (arith, both, kept_most kept fs, holds.line (omega arith), ih k, length-drop k (b ∷ l))
 
-  pub lines-most : (l : List ℕ) → length (recordLines kept (taken last (length kept) l).rows) ≤ length l + lineEnd
-  lines-most l = from-most (length l) l
+  pub lines_most : (l : List ℕ) → length (record_lines kept (taken last (length kept) l).rows) ≤ length l + line_end
+  lines_most l = from_most (length l) l

@@ -4,7 +4,7 @@ use Rattle.std.specs.Prelude.{◌≡◌, Bool, false, cond, List, [], ◌∷◌,
 use Rattle.laws.specs.Tells.{Tells}
 use Rattle.classes.specs.Class.{Covers}
 use Rattle.classes.specs.declared.Class.{Class}
-use Rattle.items.specs.Lookup.{findIn}
+use Rattle.items.specs.Lookup.{find_in}
 use Rattle.items.specs.declared.Found.{Found}
 use Rattle.scans.specs.Ascii.{quote}
 
@@ -20,24 +20,24 @@ unquoted [] = []
 unquoted (b ∷ l) = cond (eqb b quote) (undoubled l) (b ∷ l)
 
 -- The name of column c.
-abbrev pub nameIn : List (List ℕ) → ℕ → List ℕ
-nameIn fs c = unquoted (get_or fs c [])
+abbrev pub name_in : List (List ℕ) → ℕ → List ℕ
+name_in fs c = unquoted (get_or fs c [])
 
 -- What looking up the name of column c answers.
-abbrev pub columnItem : List ℕ → ℕ → List (List ℕ) → ℕ → Found
-columnItem t n fs c = findIn t n (nameIn fs c)
+abbrev pub column_item : List ℕ → ℕ → List (List ℕ) → ℕ → Found
+column_item t n fs c = find_in t n (name_in fs c)
 
 -- A name that is an item.
 pub record IsItem (t : List ℕ) (n : ℕ) (name : List ℕ) : Type 0 where
   pub item : ℕ
-  pub found : findIn t n name ≡ Found.At item
+  pub found : find_in t n name ≡ Found.At item
 
 -- "a header name, quotes taken off, that is no item or is repeated" is bad: each name is an item, and none is repeated.
 pub record HeaderOk (t : List ℕ) (n : ℕ) (fs : List (List ℕ)) : Type 0 where
-  pub known : (c : ℕ) → c < length fs → IsItem t n (nameIn fs c)
-  pub distinct : (c d : ℕ) → c < d → d < length fs → nameIn fs c ≡ nameIn fs d → ⊥
+  pub known : (c : ℕ) → c < length fs → IsItem t n (name_in fs c)
+  pub distinct : (c d : ℕ) → c < d → d < length fs → name_in fs c ≡ name_in fs d → ⊥
 
 -- "only the columns whose label that class covers" are kept.
 pub record KeepsCovered (t : List ℕ) (n : ℕ) (labels : ℕ → Class) (reader : Class) (fs : List (List ℕ)) (kept : List Bool) : Type 0 where
   pub columns : length kept ≡ length fs
-  pub covered : (c i : ℕ) → c < length fs → columnItem t n fs c ≡ Found.At i → Tells (Covers reader (labels i)) (get_or kept c false)
+  pub covered : (c i : ℕ) → c < length fs → column_item t n fs c ≡ Found.At i → Tells (Covers reader (labels i)) (get_or kept c false)

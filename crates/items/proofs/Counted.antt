@@ -6,25 +6,25 @@ use Prim.Native.Nat.{ℕ, ◌+◌, ◌*◌, ◌≤◌, ◌<◌}
 use native.Mathlib.Omega.{arith}
 use lib.ListN.{length}
 use Rattle.laws.proofs.Buffers.{SameFront}
-use Rattle.items.specs.Names.{nameRoom}
-use Rattle.items.specs.Table.{entryByte, NameAt, ItemsOk}
-use Rattle.items.specs.Lookup.{findIn}
+use Rattle.items.specs.Names.{name_room}
+use Rattle.items.specs.Table.{entry_byte, NameAt, ItemsOk}
+use Rattle.items.specs.Lookup.{find_in}
 use Rattle.items.specs.declared.Found.{Found}
 use Rattle.items.specs.declared.Found.TheVariants.{At, Absent, Refused}
-use Rattle.items.proofs.Lookup.{HasName, Sized, FoundTells, find-says, find-is}
+use Rattle.items.proofs.Lookup.{HasName, Sized, FoundTells, find_says, find_is}
 
 -- Two tables with room for n items are equal up to n.
 pub record SameItems (n : ℕ) (t u : List ℕ) : Type 0 where
-  pub left : n * nameRoom ≤ length t
-  pub right : n * nameRoom ≤ length u
-  pub bytes : (i k : ℕ) → i < n → k < nameRoom → entryByte t i k ≡ entryByte u i k
+  pub left : n * name_room ≤ length t
+  pub right : n * name_room ≤ length u
+  pub bytes : (i k : ℕ) → i < n → k < name_room → entry_byte t i k ≡ entry_byte u i k
 
-pub same-items-sym : {n : ℕ} {t u : List ℕ} → SameItems n t u → SameItems n u t
-same-items-sym s = record { left = s.right; right = s.left; bytes = λ i k h g. sym (s.bytes i k h g) }
+pub same_items_sym : {n : ℕ} {t u : List ℕ} → SameItems n t u → SameItems n u t
+same_items_sym s = record { left = s.right; right = s.left; bytes = λ i k h g. sym (s.bytes i k h g) }
 
 module _ {n : ℕ} {t u : List ℕ} (s : SameItems n t u) where
-  has-name : {i : ℕ} {name : List ℕ} → i < n → HasName t i name → HasName u i name
-  has-name {i} h g = record { bytes = λ k l. sym (s.bytes i k h l) ∙ g.bytes k l }
+  has_name : {i : ℕ} {name : List ℕ} → i < n → HasName t i name → HasName u i name
+  has_name {i} h g = record { bytes = λ k l. sym (s.bytes i k h l) ∙ g.bytes k l }
 
   sized : Sized t n → Sized u n
   sized z = record { size = z.size; room = s.right }
@@ -34,17 +34,17 @@ says s name (At i) f = record {
   sized = sized s f.sized;
   spelled = f.spelled;
   item = f.item;
-  here = has-name s f.item f.here;
-  lowest = λ j l h. f.lowest j l (has-name (same-items-sym s) (omega (arith, f.item)) h);
+  here = has_name s f.item f.here;
+  lowest = λ j l h. f.lowest j l (has_name (same_items_sym s) (omega (arith, f.item)) h);
 }
-says s name Absent f = record { sized = sized s f.sized; none = λ e i l h. f.none e i l (has-name (same-items-sym s) l h) }
-says s name (Refused r) f = record { is = f.is; wrong = λ z. f.wrong (sized (same-items-sym s) z) }
+says s name Absent f = record { sized = sized s f.sized; none = λ e i l h. f.none e i l (has_name (same_items_sym s) l h) }
+says s name (Refused r) f = record { is = f.is; wrong = λ z. f.wrong (sized (same_items_sym s) z) }
 
-pub find-counted : {n : ℕ} {t u : List ℕ} → SameItems n t u → (name : List ℕ) → findIn t n name ≡ findIn u n name
-find-counted {n} {t} {u} s name = find-is u n name (findIn t n name) (says s name (findIn t n name) (find-says t n name))
+pub find_counted : {n : ℕ} {t u : List ℕ} → SameItems n t u → (name : List ℕ) → find_in t n name ≡ find_in u n name
+find_counted {n} {t} {u} s name = find_is u n name (find_in t n name) (says s name (find_in t n name) (find_says t n name))
 
-name-counted : {n : ℕ} {t u : List ℕ} → SameItems n t u → (i : ℕ) → i < n → NameAt t i → NameAt u i
-name-counted s i h g = record {
+name_counted : {n : ℕ} {t u : List ℕ} → SameItems n t u → (i : ℕ) → i < n → NameAt t i → NameAt u i
+name_counted s i h g = record {
   len = g.len;
   least = g.least;
   most = g.most;
@@ -52,11 +52,11 @@ name-counted s i h g = record {
   rest = record { zeros = λ k m l. sym (s.bytes i k h l) ∙ g.rest.zeros k m l };
 }
 
-pub items-counted : {n : ℕ} {t u : List ℕ} → SameItems n t u → ItemsOk t n → ItemsOk u n
-items-counted s o = record {
+pub items_counted : {n : ℕ} {t u : List ℕ} → SameItems n t u → ItemsOk t n → ItemsOk u n
+items_counted s o = record {
   size = o.size;
   room = s.right;
-  names = λ i h. name-counted s i h (o.names i h);
+  names = λ i h. name_counted s i h (o.names i h);
   distinct = λ j h. record {
     new = λ i l e.
         (o.distinct j h).new i l
@@ -65,6 +65,6 @@ items-counted s o = record {
 }
 
 -- Item tables with the same front have the same items.
-pub front_items : {n : ℕ} {t u : List ℕ} → SameFront (n * nameRoom) t u → n * nameRoom ≤ length t → n * nameRoom ≤ length u → SameItems n t u
-unfolding entryByte
-front_items s h g = record { left = h; right = g; bytes = λ i k l m. s.same (i * nameRoom + k) (omega arith) }
+pub front_items : {n : ℕ} {t u : List ℕ} → SameFront (n * name_room) t u → n * name_room ≤ length t → n * name_room ≤ length u → SameItems n t u
+unfolding entry_byte
+front_items s h g = record { left = h; right = g; bytes = λ i k l m. s.same (i * name_room + k) (omega arith) }

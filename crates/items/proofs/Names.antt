@@ -1,4 +1,4 @@
--- Names: what it is for bytes to be spelled as a name, and that `isName` tells of it. They rest on induction over the bytes.
+-- Names: what it is for bytes to be spelled as a name, and that `is_name` tells of it. They rest on induction over the bytes.
 -- Assumes nothing.
 use mathlib.Core.Path.{◌≡◌, refl, ap₂}
 use mathlib.Core.Bool.{true, false, ◌&&◌}
@@ -9,47 +9,47 @@ use lib.Dec.{leb}
 use lib.ListN.{length, get_or}
 use borrow.Author.Tests.{le-leb, leb-true}
 use Rattle.laws.specs.Tells.{Tells}
-use Rattle.laws.proofs.Bools.{true-not-false, and_left, and_right}
-use Rattle.laws.proofs.Tells.{tells-test}
-use Rattle.items.specs.Names.{nameRoom, nameBytes, isName}
-use Rattle.scans.specs.Bytes.{nameByte}
+use Rattle.laws.proofs.Bools.{true_not_false, and_left, and_right}
+use Rattle.laws.proofs.Tells.{tells_test}
+use Rattle.items.specs.Names.{name_room, name_bytes, is_name}
+use Rattle.scans.specs.Bytes.{name_byte}
 
 -- A zero byte is no byte of a name.
-pub zero-no-byte : nameByte 0 ≡ false
-unfolding nameByte
-zero-no-byte = refl
+pub zero_no_byte : name_byte 0 ≡ false
+unfolding name_byte
+zero_no_byte = refl
 
-pub byte-not-zero : {b : ℕ} → nameByte b ≡ true → b ≡ 0 → ⊥
-byte-not-zero h e = true-not-false (rw e at h) zero-no-byte
+pub byte_not_zero : {b : ℕ} → name_byte b ≡ true → b ≡ 0 → ⊥
+byte_not_zero h e = true_not_false (rw e at h) zero_no_byte
 
 -- The bytes are 1 to 16, and each is one that names are made of.
 pub record Spelled (l : List ℕ) : Type 0 where
   pub least : 1 ≤ length l
-  pub most : length l ≤ nameRoom
-  pub bytes : (k : ℕ) → k < length l → nameByte (get_or l k 0) ≡ true
+  pub most : length l ≤ name_room
+  pub bytes : (k : ℕ) → k < length l → name_byte (get_or l k 0) ≡ true
 
-bytes-all : (l : List ℕ) → ((k : ℕ) → k < length l → nameByte (get_or l k 0) ≡ true) → nameBytes l ≡ true
-unfolding nameBytes
-bytes-all [] h = refl
-bytes-all (b ∷ l) h = ap₂ ◌&&◌ (h 0 (omega arith)) (bytes-all l (λ k s. h (suc k) (omega arith)))
+bytes_all : (l : List ℕ) → ((k : ℕ) → k < length l → name_byte (get_or l k 0) ≡ true) → name_bytes l ≡ true
+unfolding name_bytes
+bytes_all [] h = refl
+bytes_all (b ∷ l) h = ap₂ ◌&&◌ (h 0 (omega arith)) (bytes_all l (λ k s. h (suc k) (omega arith)))
 
-bytes-at : (l : List ℕ) → nameBytes l ≡ true → (k : ℕ) → k < length l → nameByte (get_or l k 0) ≡ true
-unfolding nameBytes
-bytes-at [] e k s = absurd (omega arith)
-bytes-at (b ∷ l) e zero s = and_left (nameByte b) (nameBytes l) e
-bytes-at (b ∷ l) e (suc k) s = bytes-at l (and_right (nameByte b) (nameBytes l) e) k (omega arith)
+bytes_at : (l : List ℕ) → name_bytes l ≡ true → (k : ℕ) → k < length l → name_byte (get_or l k 0) ≡ true
+unfolding name_bytes
+bytes_at [] e k s = absurd (omega arith)
+bytes_at (b ∷ l) e zero s = and_left (name_byte b) (name_bytes l) e
+bytes_at (b ∷ l) e (suc k) s = bytes_at l (and_right (name_byte b) (name_bytes l) e) k (omega arith)
 
-pub name-spelled : (l : List ℕ) → isName l ≡ true → Spelled l
-unfolding isName
-name-spelled l e = record {
-  least = leb-true _ _ (and_left (leb 1 (length l)) (leb (length l) nameRoom) (and_left _ (nameBytes l) e));
-  most = leb-true _ _ (and_right (leb 1 (length l)) (leb (length l) nameRoom) (and_left _ (nameBytes l) e));
-  bytes = bytes-at l (and_right (leb 1 (length l) && leb (length l) nameRoom) (nameBytes l) e);
+pub name_spelled : (l : List ℕ) → is_name l ≡ true → Spelled l
+unfolding is_name
+name_spelled l e = record {
+  least = leb-true _ _ (and_left (leb 1 (length l)) (leb (length l) name_room) (and_left _ (name_bytes l) e));
+  most = leb-true _ _ (and_right (leb 1 (length l)) (leb (length l) name_room) (and_left _ (name_bytes l) e));
+  bytes = bytes_at l (and_right (leb 1 (length l) && leb (length l) name_room) (name_bytes l) e);
 }
 
-pub spelled-name : {l : List ℕ} → Spelled l → isName l ≡ true
-unfolding isName
-spelled-name {l} s = ap₂ ◌&&◌ (ap₂ ◌&&◌ (le-leb 1 (length l) s.least) (le-leb (length l) nameRoom s.most)) (bytes-all l s.bytes)
+pub spelled_name : {l : List ℕ} → Spelled l → is_name l ≡ true
+unfolding is_name
+spelled_name {l} s = ap₂ ◌&&◌ (ap₂ ◌&&◌ (le-leb 1 (length l) s.least) (le-leb (length l) name_room s.most)) (bytes_all l s.bytes)
 
-pub name-tells : (l : List ℕ) → Tells (Spelled l) (isName l)
-name-tells l = tells-test (name-spelled l) spelled-name
+pub name_tells : (l : List ℕ) → Tells (Spelled l) (is_name l)
+name_tells l = tells_test (name_spelled l) spelled_name

@@ -3,10 +3,10 @@
 // Every function takes any input: a byte past the table's end is 0, and nothing is required.
 ghost use Rattle.std.specs.Prelude.{◌≡◌};
 ghost use Rattle.laws.specs.Tells.{Tells};
-ghost use Rattle.laws.specs.Search.{firstBelow};
-ghost use Rattle.items.specs.Names.{isName};
-ghost use Rattle.items.specs.Table.{entryByte, nameLen, SameEntry, ZerosFrom, NameAt, NewAt, ItemsOk};
-ghost use Rattle.items.specs.Lookup.{saidFound, badTable, same_name, FindSays};
+ghost use Rattle.laws.specs.Search.{first_below};
+ghost use Rattle.items.specs.Names.{is_name};
+ghost use Rattle.items.specs.Table.{entry_byte, name_len, SameEntry, ZerosFrom, NameAt, NewAt, ItemsOk};
+ghost use Rattle.items.specs.Lookup.{said_found, bad_table, same_name, FindSays};
 
 use refusals::{Fault, MOST_ITEMS, Refusal};
 
@@ -17,7 +17,7 @@ pub const NAME_ROOM: usize = 16;
 pub const WHOLE_TABLE: usize = MOST_ITEMS * NAME_ROOM;
 
 // What looking up a name answers: the number of the item, from 0; that no item has the name; or a refusal.
-#[derive(Drop)]
+#[derive(Clone, Copy)]
 pub enum Found {
     At(usize),
     Absent,
@@ -27,7 +27,7 @@ pub enum Found {
 // BadTable at 0 where there are over 256 items or the buffer has no room for n; Absent where the bytes are no name or no item has it; else the
 // lowest number of an item with these bytes.
 pub fn find(items: &[u8], n: usize, name: &[u8]) -> Found
-    ensures { FindSays items.now n name.now (saidFound result) }
+    ensures { FindSays items.now n name.now (said_found result) }
 {
     if MOST_ITEMS < n {
         return bad_table();
@@ -44,7 +44,7 @@ pub fn find(items: &[u8], n: usize, name: &[u8]) -> Found
 
 // The refusal of a table by its size.
 fn bad_table() -> Found
-    ensures { result ≡ badTable }
+    ensures { result ≡ bad_table }
 {
     Found::Refused(Refusal {
         fault: Fault::BadTable,
@@ -78,7 +78,7 @@ pub fn items_ok(items: &[u8], n: usize) -> bool
 
 // Whether these bytes are a name: 1 to 16 of a-z, 0-9 and hyphen.
 fn is_name(name: &[u8]) -> bool
-    ensures { result ≡ isName name.now }
+    ensures { result ≡ is_name name.now }
 {
     if name.len() < 1 {
         return false;
@@ -98,7 +98,7 @@ fn is_name(name: &[u8]) -> bool
 
 // How many bytes of entry i stand before its first zero byte: 16 where it has none, 0 where the entry lies outside the table.
 pub fn name_len(items: &[u8], i: usize) -> usize
-    ensures { result ≡ nameLen items.now i }
+    ensures { result ≡ name_len items.now i }
 {
     let mut k = 0;
     while k < NAME_ROOM {
@@ -112,7 +112,7 @@ pub fn name_len(items: &[u8], i: usize) -> usize
 
 // Byte k of entry i, and 0 past the table's end.
 fn byte(items: &[u8], i: usize, k: usize) -> u8
-    ensures { result ≡ entryByte items.now i k }
+    ensures { result ≡ entry_byte items.now i k }
 {
     if items.len() / NAME_ROOM < i {
         return 0;
@@ -140,7 +140,7 @@ fn same(a: &[u8], i: usize, b: &[u8], j: usize) -> bool
 
 // The number of the first of n entries that is the name, and n where none is.
 fn first_same(items: &[u8], n: usize, name: &[u8]) -> usize
-    ensures { result ≡ firstBelow n (λ i. same_name items.now i name.now) }
+    ensures { result ≡ first_below n (λ i. same_name items.now i name.now) }
 {
     let mut i = 0;
     while i < n {

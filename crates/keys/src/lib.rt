@@ -3,7 +3,7 @@
 // Every function takes any place and any number. Past a text's end no key stands, and a number that is no row or no column of the table is
 // answered no.
 ghost use Rattle.std.specs.Prelude.{◌≡◌, drop};
-ghost use Rattle.keys.specs.Keys.{starts_with, foundOr, key_at, keyNumber, nextAllowed};
+ghost use Rattle.keys.specs.Keys.{starts_with, found_or, key_at, key_number, next_allowed};
 
 // The text of each key, with its `=`.
 pub const FORM_KEY: [u8; 5] = *b"form=";
@@ -29,7 +29,7 @@ pub const AT_KEY: [u8; 3] = *b"at=";
 const KEYS: u64 = 6;
 
 // The keys, in their order.
-#[derive(Drop)]
+#[derive(Clone, Copy)]
 pub enum Key {
     Form,
     Item,
@@ -40,7 +40,7 @@ pub enum Key {
 }
 
 // A key and the length of its text.
-#[derive(Drop)]
+#[derive(Clone, Copy)]
 pub enum ReadKey {
     Found(Key, usize),
     Bad,
@@ -71,7 +71,7 @@ pub fn read_key(s: &[u8], at: usize) -> ReadKey
 
 // A key's number, from 0 in the keys' order. One more than it is the number of the row for what may come after the key.
 pub fn key_number(key: Key) -> u64
-    ensures { result ≡ keyNumber key }
+    ensures { result ≡ key_number key }
 {
     match key {
         Key::Form => 0,
@@ -85,7 +85,7 @@ pub fn key_number(key: Key) -> u64
 
 // Whether a key may come next after the start, 0, or after the key with number `after` - 1. No to any other number.
 pub fn may_follow(after: u64, key: u64) -> bool
-    ensures { result ≡ nextAllowed after key }
+    ensures { result ≡ next_allowed after key }
 {
     if KEYS <= after {
         return false;
@@ -99,7 +99,7 @@ pub fn may_follow(after: u64, key: u64) -> bool
 
 // The key, if its text stands at a place, and else what was found of other keys.
 fn key_or(s: &[u8], at: usize, text: &[u8], key: Key, other: ReadKey) -> ReadKey
-    ensures { result ≡ foundOr key text.now (drop at s.now) other }
+    ensures { result ≡ found_or key text.now (drop at s.now) other }
 {
     if starts_with(s, at, text) {
         return ReadKey::Found(key, text.len());

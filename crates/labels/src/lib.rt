@@ -4,13 +4,13 @@
 ghost use Rattle.std.specs.Prelude.{◌≡◌, get_or};
 ghost use Rattle.laws.specs.Tells.{Tells};
 ghost use Rattle.laws.specs.First.{Sought};
-ghost use Rattle.labels.specs.Labels.{labelsIn, LevelInRange, Room};
+ghost use Rattle.labels.specs.Labels.{labels_in, LevelInRange, Room};
 
 use classes::{Class, TOP_LEVEL};
 
 // The label of item i, and the lowest class past the end of the labels.
 pub fn label_at(levels: &[u64], marks: &[u64], i: u64) -> Class
-    ensures { result ≡ labelsIn levels.now marks.now i }
+    ensures { result ≡ labels_in levels.now marks.now i }
 {
     Class::new(value_at(levels, i), value_at(marks, i))
 }

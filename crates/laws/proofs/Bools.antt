@@ -3,8 +3,8 @@
 use mathlib.Core.Path.{◌≡◌, refl, sym, ◌∙◌}
 use mathlib.Core.Bool.{Bool, true, false, ◌&&◌, beq, true≢false, and-eq-true_iff}
 
-pub true-not-false : {b : Bool} → b ≡ true → b ≡ false → ⊥
-true-not-false e d = true≢false (sym e ∙ d)
+pub true_not_false : {b : Bool} → b ≡ true → b ≡ false → ⊥
+true_not_false e d = true≢false (sym e ∙ d)
 
 pub and_left : (a b : Bool) → (a && b) ≡ true → a ≡ true
 and_left a b e = ((and-eq-true_iff a b).0 e).0
@@ -14,6 +14,6 @@ and_right a b e = ((and-eq-true_iff a b).0 e).1
 
 pub beq_same : (a b : Bool) → beq a b ≡ true → a ≡ b
 beq_same true true e = refl
-beq_same true false e = absurd (true-not-false e refl)
-beq_same false true e = absurd (true-not-false e refl)
+beq_same true false e = absurd (true_not_false e refl)
+beq_same false true e = absurd (true_not_false e refl)
 beq_same false false e = refl

@@ -3,6 +3,6 @@
 use Rattle.std.specs.Prelude.{Bool, true, ◌&&◌, ℕ, zero, suc}
 
 -- Of each number below n the test says yes.
-unfoldable pub everyBelow : ℕ → (ℕ → Bool) → Bool
-everyBelow zero f = true
-everyBelow (suc n) f = f 0 && everyBelow n (λ k. f (suc k))
+unfoldable pub every_below : ℕ → (ℕ → Bool) → Bool
+every_below zero f = true
+every_below (suc n) f = f 0 && every_below n (λ k. f (suc k))

@@ -15,22 +15,22 @@ use mir.Val.{Fits}
 use borrow.Author.Tests.{eq-eqb, ne_eqb, eqb-true}
 use Rattle.classes.specs.Class.{lowest}
 use Rattle.classes.specs.declared.Class.{Class}
-use Rattle.items.specs.Names.{nameRoom}
-use Rattle.items.proofs.Names.{name-spelled}
+use Rattle.items.specs.Names.{name_room}
+use Rattle.items.proofs.Names.{name_spelled}
 use Rattle.scans.specs.Ascii.{lf, digit1, colon}
 use Rattle.scans.specs.Bytes.{byte_at}
 use Rattle.scans.proofs.Places.{byte_inside}
 use Rattle.keys.specs.Keys.{key_at}
 use Rattle.keys.specs.declared.Key.{Key}
 use Rattle.keys.specs.declared.ReadKey.{ReadKey}
-use Rattle.keys.proofs.KeyTexts.{key-some, key-is-text}
-use Rattle.tokens.specs.Tokens.{name_at, countAt, class_at}
+use Rattle.keys.proofs.KeyTexts.{key_some, key_is_text}
+use Rattle.tokens.specs.Tokens.{name_at, count_at, class_at}
 use Rattle.tokens.specs.declared.Number.{Number}
 use Rattle.tokens.specs.declared.ClassToken.{ClassToken}
 use Rattle.tokens.specs.declared.ReadName.{ReadName}
 use Rattle.tokens.specs.declared.ReadCount.{ReadCount}
 use Rattle.tokens.specs.declared.ReadClass.{ReadClass}
-use Rattle.tokens.proofs.Tokens.{name-is-name, class-is-text, count-is-text}
+use Rattle.tokens.proofs.Tokens.{name_is_name, class_is_text, count_is_text}
 use Rattle.lines.specs.declared.left.LeftSide.{LeftSide}
 use Rattle.lines.specs.declared.left.ReadLeft.{ReadLeft}
 use Rattle.lines.specs.declared.value.Value.{Value}
@@ -38,60 +38,60 @@ use Rattle.lines.specs.declared.value.ReadValue.{ReadValue}
 use Rattle.lines.specs.declared.ReadLine.{ReadLine}
 use Rattle.lines.specs.declared.Line.{Line}
 use Rattle.lines.specs.Left.{left_at}
-use Rattle.lines.specs.Values.{unnamed, named, formAt, item_of, item_at, cap_of, cap_at, floorOf, floorAt, followOf, followAt, end_of, end_at, value_at, classBehind, withClass, rightBehind, withRight}
-use Rattle.lines.specs.Lines.{ended, line_of, line_at, lineLen}
-use Rattle.lines.proofs.Sides.{Stands, name-stands, left-stands}
+use Rattle.lines.specs.Values.{unnamed, named, form_at, item_of, item_at, cap_of, cap_at, floor_of, floor_at, follow_of, follow_at, end_of, end_at, value_at, class_behind, with_class, right_behind, with_right}
+use Rattle.lines.specs.Lines.{ended, line_of, line_at, line_len}
+use Rattle.lines.proofs.Sides.{Stands, name_stands, left_stands}
 
 -- The values of form and end, of an item, and what is behind the names of a rule.
 module _ (l : List ℕ) {b : ℕ} (e : b ≡ byte_at l) where
-  pub form-bad : (b ≡ digit1 → ⊥) → ReadValue.Bad ≡ formAt l
-  unfolding formAt
-  form-bad f = rw (← e, ne_eqb b digit1 f)
+  pub form_bad : (b ≡ digit1 → ⊥) → ReadValue.Bad ≡ form_at l
+  unfolding form_at
+  form_bad f = rw (← e, ne_eqb b digit1 f)
 
-  pub form-found : b ≡ digit1 → {r : ReadValue} → r ≡ unnamed 0 1 → r ≡ formAt l
-  unfolding formAt
-  form-found f g = rw (← e, eq-eqb b digit1 f) g
+  pub form_found : b ≡ digit1 → {r : ReadValue} → r ≡ unnamed 0 1 → r ≡ form_at l
+  unfolding form_at
+  form_found f g = rw (← e, eq-eqb b digit1 f) g
 
 module _ (s : List ℕ) (at : ℕ) {x : ReadName} (e : x ≡ name_at (drop at s)) where
-  pub item-bad : x ≡ ReadName.Bad → ReadValue.Bad ≡ item_at (drop at s)
-  item-bad f = rw (← e, f)
+  pub item_bad : x ≡ ReadName.Bad → ReadValue.Bad ≡ item_at (drop at s)
+  item_bad f = rw (← e, f)
 
-  pub cap-bad : x ≡ ReadName.Bad → ReadValue.Bad ≡ cap_at (drop at s)
-  cap-bad f = rw (← e, f)
+  pub cap_bad : x ≡ ReadName.Bad → ReadValue.Bad ≡ cap_at (drop at s)
+  cap_bad f = rw (← e, f)
 
   module _ {n : ℕ} (f : x ≡ ReadName.Found n) where
-    pub item-found : {c : Class} → c ≡ lowest → named 1 n 0 c n ≡ item_at (drop at s)
-    item-found g = rw (← e, f, g)
+    pub item_found : {c : Class} → c ≡ lowest → named 1 n 0 c n ≡ item_at (drop at s)
+    item_found g = rw (← e, f, g)
 
-    pub cap-room : at + n ≤ length s
-    cap-room = (name-stands s at n (sym e ∙ f)).within
+    pub cap_room : at + n ≤ length s
+    cap_room = (name_stands s at n (sym e ∙ f)).within
 
-    pub cap-found : {r : ReadValue} → r ≡ withClass 1 n (drop at s) → r ≡ cap_at (drop at s)
-    cap-found g = g ∙ rw (← e, f)
+    pub cap_found : {r : ReadValue} → r ≡ with_class 1 n (drop at s) → r ≡ cap_at (drop at s)
+    cap_found g = g ∙ rw (← e, f)
 
 module _ (s : List ℕ) (at : ℕ) {x : ReadLeft} (e : x ≡ left_at (drop at s)) where
-  pub floor-bad : x ≡ ReadLeft.Bad → ReadValue.Bad ≡ floorAt (drop at s)
-  floor-bad f = rw (← e, f)
+  pub floor_bad : x ≡ ReadLeft.Bad → ReadValue.Bad ≡ floor_at (drop at s)
+  floor_bad f = rw (← e, f)
 
-  pub follow-bad : x ≡ ReadLeft.Bad → ReadValue.Bad ≡ followAt (drop at s)
-  follow-bad f = rw (← e, f)
+  pub follow_bad : x ≡ ReadLeft.Bad → ReadValue.Bad ≡ follow_at (drop at s)
+  follow_bad f = rw (← e, f)
 
   module _ {left : LeftSide} (f : x ≡ ReadLeft.Found left) where
-    pub left-room : at + left.len ≤ length s
-    left-room = (left-stands s at left (sym e ∙ f)).within
+    pub left_room : at + left.len ≤ length s
+    left_room = (left_stands s at left (sym e ∙ f)).within
 
-    pub floor-found : {r : ReadValue} → r ≡ withClass left.names left.len (drop at s) → r ≡ floorAt (drop at s)
-    floor-found g = g ∙ rw (← e, f)
+    pub floor_found : {r : ReadValue} → r ≡ with_class left.names left.len (drop at s) → r ≡ floor_at (drop at s)
+    floor_found g = g ∙ rw (← e, f)
 
-    pub follow-found : {r : ReadValue} → r ≡ withRight left.names left.len (drop at s) → r ≡ followAt (drop at s)
-    follow-found g = g ∙ rw (← e, f)
+    pub follow_found : {r : ReadValue} → r ≡ with_right left.names left.len (drop at s) → r ≡ follow_at (drop at s)
+    follow_found g = g ∙ rw (← e, f)
 
-module _ (l : List ℕ) {x : ReadCount} (e : x ≡ countAt l) where
-  pub end-bad : x ≡ ReadCount.Bad → ReadValue.Bad ≡ end_at l
-  end-bad f = rw (← e, f)
+module _ (l : List ℕ) {x : ReadCount} (e : x ≡ count_at l) where
+  pub end_bad : x ≡ ReadCount.Bad → ReadValue.Bad ≡ end_at l
+  end_bad f = rw (← e, f)
 
-  pub end-found : {y : Number} → x ≡ ReadCount.Found y → {r : ReadValue} → r ≡ unnamed y.value y.len → r ≡ end_at l
-  end-found f g = g ∙ rw (← e, f)
+  pub end_found : {y : Number} → x ≡ ReadCount.Found y → {r : ReadValue} → r ≡ unnamed y.value y.len → r ≡ end_at l
+  end_found f g = g ∙ rw (← e, f)
 
 -- What stands behind n bytes: b is the byte there.
 module _ (s : List ℕ) (at names n : ℕ) {b : ℕ} (e : b ≡ byte_at (drop (at + n) s)) where
@@ -101,44 +101,44 @@ module _ (s : List ℕ) (at names n : ℕ) {b : ℕ} (e : b ≡ byte_at (drop (a
   behind : drop (n + 1) (drop at s) ≡ drop (at + n + 1) s
   behind = drop-drop (n + 1) at s ∙ rw add_assoc
 
-  pub class-no-colon : (b ≡ colon → ⊥) → ReadValue.Bad ≡ withClass names n (drop at s)
-  unfolding withClass
-  class-no-colon f = rw (sign, ne_eqb b colon f)
+  pub class_no_colon : (b ≡ colon → ⊥) → ReadValue.Bad ≡ with_class names n (drop at s)
+  unfolding with_class
+  class_no_colon f = rw (sign, ne_eqb b colon f)
 
-  pub right-no-colon : (b ≡ colon → ⊥) → ReadValue.Bad ≡ withRight names n (drop at s)
-  unfolding withRight
-  right-no-colon f = rw (sign, ne_eqb b colon f)
+  pub right_no_colon : (b ≡ colon → ⊥) → ReadValue.Bad ≡ with_right names n (drop at s)
+  unfolding with_right
+  right_no_colon f = rw (sign, ne_eqb b colon f)
 
   module _ (f : b ≡ colon) where
-    pub colon-next : length s < 2 ^ 64 → Fits w64 (at + n + 1)
-    colon-next h = record { fits = omega (arith, byte_inside s (at + n) (omega arith)) }
+    pub colon_next : length s < 2 ^ 64 → Fits w64 (at + n + 1)
+    colon_next h = record { fits = omega (arith, byte_inside s (at + n) (omega arith)) }
 
     module _ {x : ReadClass} (g : x ≡ class_at (drop (at + n + 1) s)) where
-      pub class-bad : x ≡ ReadClass.Bad → ReadValue.Bad ≡ withClass names n (drop at s)
-      unfolding withClass
-      class-bad h = rw (sign, eq-eqb b colon f, behind, ← g, h)
+      pub class_bad : x ≡ ReadClass.Bad → ReadValue.Bad ≡ with_class names n (drop at s)
+      unfolding with_class
+      class_bad h = rw (sign, eq-eqb b colon f, behind, ← g, h)
 
       module _ {y : ClassToken} (h : x ≡ ReadClass.Found y) where
-        pub class-len : length s < 2 ^ 64 → Fits w64 (n + 1 + y.len)
-        class-len i =
-            record { fits = omega (arith, byte_inside s (at + n) (omega arith), (class-is-text _ y (sym g ∙ h)).within, length-drop (at + n + 1) s) }
+        pub class_len : length s < 2 ^ 64 → Fits w64 (n + 1 + y.len)
+        class_len i =
+            record { fits = omega (arith, byte_inside s (at + n) (omega arith), (class_is_text _ y (sym g ∙ h)).within, length-drop (at + n + 1) s) }
 
-        pub class-behind : named names n 0 y.class (n + 1 + y.len) ≡ withClass names n (drop at s)
-        unfolding withClass
-        class-behind = rw (sign, eq-eqb b colon f, behind, ← g, h)
+        pub class_behind_lem : named names n 0 y.class (n + 1 + y.len) ≡ with_class names n (drop at s)
+        unfolding with_class
+        class_behind_lem = rw (sign, eq-eqb b colon f, behind, ← g, h)
 
     module _ {x : ReadName} (g : x ≡ name_at (drop (at + n + 1) s)) where
-      pub right-bad : x ≡ ReadName.Bad → ReadValue.Bad ≡ withRight names n (drop at s)
-      unfolding withRight
-      right-bad h = rw (sign, eq-eqb b colon f, behind, ← g, h)
+      pub right_bad : x ≡ ReadName.Bad → ReadValue.Bad ≡ with_right names n (drop at s)
+      unfolding with_right
+      right_bad h = rw (sign, eq-eqb b colon f, behind, ← g, h)
 
       module _ {k : ℕ} (h : x ≡ ReadName.Found k) where
-        pub right-len : length s < 2 ^ 64 → Fits w64 (n + 1 + k)
-        right-len i = record { fits = omega (arith, (name-stands s (at + n + 1) k (sym g ∙ h)).within) }
+        pub right_len : length s < 2 ^ 64 → Fits w64 (n + 1 + k)
+        right_len i = record { fits = omega (arith, (name_stands s (at + n + 1) k (sym g ∙ h)).within) }
 
-        pub right-behind : {c : Class} → c ≡ lowest → named names n k c (n + 1 + k) ≡ withRight names n (drop at s)
-        unfolding withRight
-        right-behind i = rw (sign, eq-eqb b colon f, behind, ← g, h, i)
+        pub right_behind_lem : {c : Class} → c ≡ lowest → named names n k c (n + 1 + k) ≡ with_right names n (drop at s)
+        unfolding with_right
+        right_behind_lem i = rw (sign, eq-eqb b colon f, behind, ← g, h, i)
 
 -- A value that is read stands within the text, and its left side within it.
 pub record ValueHere (l : List ℕ) (v : Value) : Type 0 where
@@ -149,68 +149,68 @@ abbrev pub ValueSays : List ℕ → ReadValue → Type 0
 ValueSays l ReadValue.Bad = Unit
 ValueSays l (ReadValue.Found v) = ValueHere l v
 
-form-says : (l : List ℕ) → ValueSays l (formAt l)
-unfolding formAt
-form-says l = says (eqb (byte_at l) digit1) refl
+form_says : (l : List ℕ) → ValueSays l (form_at l)
+unfolding form_at
+form_says l = says (eqb (byte_at l) digit1) refl
   where
     says : (b : Bool) → eqb (byte_at l) digit1 ≡ b → ValueSays l (cond b (unnamed 0 1) ReadValue.Bad)
     says true e = record { within = byte_inside l 0 (omega (arith, eqb-true (byte_at l) digit1 e)); left = omega arith }
     says false e = tt
 
-item-says : (l : List ℕ) (x : ReadName) → name_at l ≡ x → ValueSays l (item_of x)
-item-says l ReadName.Bad e = tt
-item-says l (ReadName.Found n) e = record { within = (name-is-name l n e).within; left = le_refl n }
+item_says : (l : List ℕ) (x : ReadName) → name_at l ≡ x → ValueSays l (item_of x)
+item_says l ReadName.Bad e = tt
+item_says l (ReadName.Found n) e = record { within = (name_is_name l n e).within; left = le_refl n }
 
-end-says : (l : List ℕ) (x : ReadCount) → countAt l ≡ x → ValueSays l (end_of x)
-end-says l ReadCount.Bad e = tt
-end-says l (ReadCount.Found x) e = record { within = (count-is-text l x e).within; left = omega arith }
+end_says : (l : List ℕ) (x : ReadCount) → count_at l ≡ x → ValueSays l (end_of x)
+end_says l ReadCount.Bad e = tt
+end_says l (ReadCount.Found x) e = record { within = (count_is_text l x e).within; left = omega arith }
 
-behind-says : (l : List ℕ) (n : ℕ) (x : ReadValue) → (n < length l → ValueSays l x)
+behind_says : (l : List ℕ) (n : ℕ) (x : ReadValue) → (n < length l → ValueSays l x)
     → ValueSays l (cond (eqb (byte_at (drop n l)) colon) x ReadValue.Bad)
-behind-says l n x f = says (eqb (byte_at (drop n l)) colon) refl
+behind_says l n x f = says (eqb (byte_at (drop n l)) colon) refl
   where
     says : (b : Bool) → eqb (byte_at (drop n l)) colon ≡ b → ValueSays l (cond b x ReadValue.Bad)
     says true e = f (byte_inside l n (omega (arith, eqb-true (byte_at (drop n l)) colon e)))
     says false e = tt
 
-class-says : (names n : ℕ) (l : List ℕ) → ValueSays l (withClass names n l)
-unfolding withClass
-class-says names n l = behind-says l n (classBehind names n (class_at (drop (n + 1) l))) (λ h. says h (class_at (drop (n + 1) l)) refl)
+class_says : (names n : ℕ) (l : List ℕ) → ValueSays l (with_class names n l)
+unfolding with_class
+class_says names n l = behind_says l n (class_behind names n (class_at (drop (n + 1) l))) (λ h. says h (class_at (drop (n + 1) l)) refl)
   where
-    says : n < length l → (x : ReadClass) → class_at (drop (n + 1) l) ≡ x → ValueSays l (classBehind names n x)
+    says : n < length l → (x : ReadClass) → class_at (drop (n + 1) l) ≡ x → ValueSays l (class_behind names n x)
     says h ReadClass.Bad e = tt
-    says h (ReadClass.Found x) e = record { within = omega (arith, (class-is-text (drop (n + 1) l) x e).within, length-drop (n + 1) l); left = omega arith }
+    says h (ReadClass.Found x) e = record { within = omega (arith, (class_is_text (drop (n + 1) l) x e).within, length-drop (n + 1) l); left = omega arith }
 
-right-says : (names n : ℕ) (l : List ℕ) → ValueSays l (withRight names n l)
-unfolding withRight
-right-says names n l = behind-says l n (rightBehind names n (name_at (drop (n + 1) l))) (λ h. says h (name_at (drop (n + 1) l)) refl)
+right_says : (names n : ℕ) (l : List ℕ) → ValueSays l (with_right names n l)
+unfolding with_right
+right_says names n l = behind_says l n (right_behind names n (name_at (drop (n + 1) l))) (λ h. says h (name_at (drop (n + 1) l)) refl)
   where
-    says : n < length l → (x : ReadName) → name_at (drop (n + 1) l) ≡ x → ValueSays l (rightBehind names n x)
+    says : n < length l → (x : ReadName) → name_at (drop (n + 1) l) ≡ x → ValueSays l (right_behind names n x)
     says h ReadName.Bad e = tt
-    says h (ReadName.Found k) e = record { within = omega (arith, (name-is-name (drop (n + 1) l) k e).within, length-drop (n + 1) l); left = omega arith }
+    says h (ReadName.Found k) e = record { within = omega (arith, (name_is_name (drop (n + 1) l) k e).within, length-drop (n + 1) l); left = omega arith }
 
-cap-says : (l : List ℕ) (x : ReadName) → ValueSays l (cap_of l x)
-cap-says l ReadName.Bad = tt
-cap-says l (ReadName.Found n) = class-says 1 n l
+cap_says : (l : List ℕ) (x : ReadName) → ValueSays l (cap_of l x)
+cap_says l ReadName.Bad = tt
+cap_says l (ReadName.Found n) = class_says 1 n l
 
-floor-says : (l : List ℕ) (x : ReadLeft) → ValueSays l (floorOf l x)
-floor-says l ReadLeft.Bad = tt
-floor-says l (ReadLeft.Found x) = class-says x.names x.len l
+floor_says : (l : List ℕ) (x : ReadLeft) → ValueSays l (floor_of l x)
+floor_says l ReadLeft.Bad = tt
+floor_says l (ReadLeft.Found x) = class_says x.names x.len l
 
-follow-says : (l : List ℕ) (x : ReadLeft) → ValueSays l (followOf l x)
-follow-says l ReadLeft.Bad = tt
-follow-says l (ReadLeft.Found x) = right-says x.names x.len l
+follow_says : (l : List ℕ) (x : ReadLeft) → ValueSays l (follow_of l x)
+follow_says l ReadLeft.Bad = tt
+follow_says l (ReadLeft.Found x) = right_says x.names x.len l
 
-value-says : (k : Key) (l : List ℕ) → ValueSays l (value_at k l)
-value-says Key.Form l = form-says l
-value-says Key.Item l = item-says l (name_at l) refl
-value-says Key.Cap l = cap-says l (name_at l)
-value-says Key.Floor l = floor-says l (left_at l)
-value-says Key.Follow l = follow-says l (left_at l)
-value-says Key.End l = end-says l (countAt l) refl
+value_says : (k : Key) (l : List ℕ) → ValueSays l (value_at k l)
+value_says Key.Form l = form_says l
+value_says Key.Item l = item_says l (name_at l) refl
+value_says Key.Cap l = cap_says l (name_at l)
+value_says Key.Floor l = floor_says l (left_at l)
+value_says Key.Follow l = follow_says l (left_at l)
+value_says Key.End l = end_says l (count_at l) refl
 
-pub value-here : (k : Key) (l : List ℕ) (v : Value) → value_at k l ≡ ReadValue.Found v → ValueHere l v
-value-here k l v e = subst (ValueSays l) e (value-says k l)
+pub value_here : (k : Key) (l : List ℕ) (v : Value) → value_at k l ≡ ReadValue.Found v → ValueHere l v
+value_here k l v e = subst (ValueSays l) e (value_says k l)
 
 -- The name of an item has at most 16 bytes.
 abbrev IsBad : ReadValue → Type 0
@@ -219,73 +219,73 @@ IsBad (ReadValue.Found v) = ⊥
 
 abbrev LeftFew : ReadValue → Type 0
 LeftFew ReadValue.Bad = Unit
-LeftFew (ReadValue.Found v) = v.left ≤ nameRoom
+LeftFew (ReadValue.Found v) = v.left ≤ name_room
 
-item-few : (l : List ℕ) (v : Value) (x : ReadName) → name_at l ≡ x → item_of x ≡ ReadValue.Found v → v.left ≤ nameRoom
-item-few l v ReadName.Bad e f = absurd (bad f)
+item_few : (l : List ℕ) (v : Value) (x : ReadName) → name_at l ≡ x → item_of x ≡ ReadValue.Found v → v.left ≤ name_room
+item_few l v ReadName.Bad e f = absurd (bad f)
   where
     bad : ReadValue.Bad ≡ ReadValue.Found v → ⊥
     bad f = subst (λ (y : ReadValue). IsBad y) f tt
-item-few l v (ReadName.Found n) e f = subst (λ (y : ReadValue). LeftFew y) f most
+item_few l v (ReadName.Found n) e f = subst (λ (y : ReadValue). LeftFew y) f most
   where
-    most : n ≤ nameRoom
+    most : n ≤ name_room
     most =
-        let here = name-is-name l n e in
-        omega (arith, (name-spelled (take n l) here.name).most, length-take-le n l here.within)
+        let here = name_is_name l n e in
+        omega (arith, (name_spelled (take n l) here.name).most, length-take-le n l here.within)
 
-value-few : (k : Key) (l : List ℕ) (v : Value) → value_at k l ≡ ReadValue.Found v → k ≡ Key.Item → v.left ≤ nameRoom
-value-few k l v e f = item-few l v (name_at l) refl (rw f at e)
+value_few : (k : Key) (l : List ℕ) (v : Value) → value_at k l ≡ ReadValue.Found v → k ≡ Key.Item → v.left ≤ name_room
+value_few k l v e f = item_few l v (name_at l) refl (rw f at e)
 
-pub key-stands : (s : List ℕ) (at : ℕ) (k : Key) (n : ℕ) → key_at (drop at s) ≡ ReadKey.Found k n → Stands s at n
-key-stands s at k n e =
-    let here = key-is-text (drop at s) k n e in
-    let some : 1 ≤ n = omega (arith, here.size, key-some k) in
+pub key_stands : (s : List ℕ) (at : ℕ) (k : Key) (n : ℕ) → key_at (drop at s) ≡ ReadKey.Found k n → Stands s at n
+key_stands s at k n e =
+    let here = key_is_text (drop at s) k n e in
+    let some : 1 ≤ n = omega (arith, here.size, key_some k) in
     record { some = some; within = omega (arith, here.size, here.begins.within, length-drop at s) }
 
 -- A line: its key x, its value y, and the byte b behind them.
-pub line-no-key : (l : List ℕ) {x : ReadKey} → x ≡ key_at l → x ≡ ReadKey.Bad → ReadLine.Bad ≡ line_at l
-line-no-key l e f = rw (← e, f)
+pub line_no_key : (l : List ℕ) {x : ReadKey} → x ≡ key_at l → x ≡ ReadKey.Bad → ReadLine.Bad ≡ line_at l
+line_no_key l e f = rw (← e, f)
 
 module _ (s : List ℕ) (at : ℕ) {k : Key} {n : ℕ} {x : ReadKey} (e : x ≡ key_at (drop at s)) (f : x ≡ ReadKey.Found k n) where
-  pub value-place : length s < 2 ^ 64 → Fits w64 (at + n)
-  value-place h = record { fits = omega (arith, (key-stands s at k n (sym e ∙ f)).within) }
+  pub value_place : length s < 2 ^ 64 → Fits w64 (at + n)
+  value_place h = record { fits = omega (arith, (key_stands s at k n (sym e ∙ f)).within) }
 
   module _ {y : ReadValue} (g : y ≡ value_at k (drop (at + n) s)) where
     value : value_at k (drop n (drop at s)) ≡ y
     value = ap (value_at k) (drop-drop n at s) ∙ sym g
 
-    pub line-no-value : y ≡ ReadValue.Bad → ReadLine.Bad ≡ line_at (drop at s)
-    line-no-value h = rw (← e, f, value, h)
+    pub line_no_value : y ≡ ReadValue.Bad → ReadLine.Bad ≡ line_at (drop at s)
+    line_no_value h = rw (← e, f, value, h)
 
     module _ {v : Value} (h : y ≡ ReadValue.Found v) where
-      pub line-end : length s < 2 ^ 64 → Fits w64 (at + n + v.len)
-      line-end i =
-          record { fits = omega (arith, (key-stands s at k n (sym e ∙ f)).within, (value-here k (drop (at + n) s) v (sym g ∙ h)).within, length-drop (at + n) s) }
+      pub line_end : length s < 2 ^ 64 → Fits w64 (at + n + v.len)
+      line_end i =
+          record { fits = omega (arith, (key_stands s at k n (sym e ∙ f)).within, (value_here k (drop (at + n) s) v (sym g ∙ h)).within, length-drop (at + n) s) }
 
       module _ {b : ℕ} (i : b ≡ byte_at (drop (at + n + v.len) s)) where
         last : byte_at (drop (n + v.len) (drop at s)) ≡ b
         last = ap byte_at (drop-drop (n + v.len) at s) ∙ rw (← add_assoc at n v.len) (sym i)
 
-        pub line-no-end : (b ≡ lf → ⊥) → ReadLine.Bad ≡ line_at (drop at s)
-        line-no-end j = rw (← e, f, value, h, last, ne_eqb b lf j)
+        pub line_no_end : (b ≡ lf → ⊥) → ReadLine.Bad ≡ line_at (drop at s)
+        line_no_end j = rw (← e, f, value, h, last, ne_eqb b lf j)
 
-        pub line-found : b ≡ lf → ReadLine.Found (record { key = k; from = n; value = v }) ≡ line_at (drop at s)
-        line-found j = rw (← e, f, value, h, last, eq-eqb b lf j)
+        pub line_found : b ≡ lf → ReadLine.Found (record { key = k; from = n; value = v }) ≡ line_at (drop at s)
+        line_found j = rw (← e, f, value, h, last, eq-eqb b lf j)
 
 -- What a line that is read says: it has a byte and stands within the text, and its left side within it.
 pub record LineHere (l : List ℕ) (x : Line) : Type 0 where
-  pub some : 1 ≤ lineLen x
-  pub within : lineLen x ≤ length l
-  pub left : x.from + x.value.left < lineLen x
-  pub name : x.key ≡ Key.Item → x.value.left ≤ nameRoom
+  pub some : 1 ≤ line_len x
+  pub within : line_len x ≤ length l
+  pub left : x.from + x.value.left < line_len x
+  pub name : x.key ≡ Key.Item → x.value.left ≤ name_room
 
 abbrev pub LineSays : List ℕ → ReadLine → Type 0
 LineSays l ReadLine.Bad = Unit
 LineSays l (ReadLine.Found x) = LineHere l x
 
-ended-says : (l : List ℕ) (k : Key) (n : ℕ) (y : ReadValue) → value_at k (drop n l) ≡ y → LineSays l (ended l k n y)
-ended-says l k n ReadValue.Bad e = tt
-ended-says l k n (ReadValue.Found v) e = says (eqb (byte_at (drop (n + v.len) l)) lf) refl
+ended_says : (l : List ℕ) (k : Key) (n : ℕ) (y : ReadValue) → value_at k (drop n l) ≡ y → LineSays l (ended l k n y)
+ended_says l k n ReadValue.Bad e = tt
+ended_says l k n (ReadValue.Found v) e = says (eqb (byte_at (drop (n + v.len) l)) lf) refl
   where
     says : (b : Bool) → eqb (byte_at (drop (n + v.len) l)) lf ≡ b
         → LineSays l (cond b (ReadLine.Found (record { key = k; from = n; value = v })) ReadLine.Bad)
@@ -293,13 +293,13 @@ ended-says l k n (ReadValue.Found v) e = says (eqb (byte_at (drop (n + v.len) l)
     says true f = record {
       some = omega arith;
       within = omega (arith, byte_inside l (n + v.len) (omega (arith, eqb-true (byte_at (drop (n + v.len) l)) lf f)));
-      left = omega (arith, (value-here k (drop n l) v e).left);
-      name = value-few k (drop n l) v e;
+      left = omega (arith, (value_here k (drop n l) v e).left);
+      name = value_few k (drop n l) v e;
     }
 
-line-says : (l : List ℕ) (x : ReadKey) → LineSays l (line_of l x)
-line-says l ReadKey.Bad = tt
-line-says l (ReadKey.Found k n) = ended-says l k n (value_at k (drop n l)) refl
+line_says : (l : List ℕ) (x : ReadKey) → LineSays l (line_of l x)
+line_says l ReadKey.Bad = tt
+line_says l (ReadKey.Found k n) = ended_says l k n (value_at k (drop n l)) refl
 
-pub line-here : (l : List ℕ) (x : Line) → line_at l ≡ ReadLine.Found x → LineHere l x
-line-here l x e = subst (LineSays l) e (line-says l (key_at l))
+pub line_here : (l : List ℕ) (x : Line) → line_at l ≡ ReadLine.Found x → LineHere l x
+line_here l x e = subst (LineSays l) e (line_says l (key_at l))

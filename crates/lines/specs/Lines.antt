@@ -25,5 +25,5 @@ abbrev pub line_at : List ℕ → ReadLine
 line_at l = line_of l (key_at l)
 
 -- How long a line is, with its LF.
-abbrev pub lineLen : Line → ℕ
-lineLen x = x.from + x.value.len + 1
+abbrev pub line_len : Line → ℕ
+line_len x = x.from + x.value.len + 1

@@ -6,7 +6,7 @@ use Rattle.classes.specs.declared.Class.{Class}
 use Rattle.scans.specs.Ascii.{digit1, colon}
 use Rattle.scans.specs.Bytes.{byte_at}
 use Rattle.keys.specs.declared.Key.{Key}
-use Rattle.tokens.specs.Tokens.{name_at, countAt, class_at}
+use Rattle.tokens.specs.Tokens.{name_at, count_at, class_at}
 use Rattle.tokens.specs.declared.ReadName.{ReadName}
 use Rattle.tokens.specs.declared.ReadCount.{ReadCount}
 use Rattle.tokens.specs.declared.ReadClass.{ReadClass}
@@ -22,8 +22,8 @@ abbrev pub named : ℕ → ℕ → ℕ → Class → ℕ → ReadValue
 named names n right c len = ReadValue.Found (record { names = names; left = n; right = right; class = c; count = 0; len = len })
 
 -- "form | 1"
-unfoldable pub formAt : List ℕ → ReadValue
-formAt l = cond (eqb (byte_at l) digit1) (unnamed 0 1) ReadValue.Bad
+unfoldable pub form_at : List ℕ → ReadValue
+form_at l = cond (eqb (byte_at l) digit1) (unnamed 0 1) ReadValue.Bad
 
 -- "item | NAME"
 abbrev pub item_of : ReadName → ReadValue
@@ -34,44 +34,44 @@ abbrev pub item_at : List ℕ → ReadValue
 item_at l = item_of (name_at l)
 
 -- ":CLASS" behind names of n bytes.
-abbrev pub classBehind : ℕ → ℕ → ReadClass → ReadValue
-classBehind names n ReadClass.Bad = ReadValue.Bad
-classBehind names n (ReadClass.Found x) = named names n 0 x.class (n + 1 + x.len)
+abbrev pub class_behind : ℕ → ℕ → ReadClass → ReadValue
+class_behind names n ReadClass.Bad = ReadValue.Bad
+class_behind names n (ReadClass.Found x) = named names n 0 x.class (n + 1 + x.len)
 
-unfoldable pub withClass : ℕ → ℕ → List ℕ → ReadValue
-withClass names n l = cond (eqb (byte_at (drop n l)) colon) (classBehind names n (class_at (drop (n + 1) l))) ReadValue.Bad
+unfoldable pub with_class : ℕ → ℕ → List ℕ → ReadValue
+with_class names n l = cond (eqb (byte_at (drop n l)) colon) (class_behind names n (class_at (drop (n + 1) l))) ReadValue.Bad
 
 -- ":NAME" behind names of n bytes.
-abbrev pub rightBehind : ℕ → ℕ → ReadName → ReadValue
-rightBehind names n ReadName.Bad = ReadValue.Bad
-rightBehind names n (ReadName.Found k) = named names n k lowest (n + 1 + k)
+abbrev pub right_behind : ℕ → ℕ → ReadName → ReadValue
+right_behind names n ReadName.Bad = ReadValue.Bad
+right_behind names n (ReadName.Found k) = named names n k lowest (n + 1 + k)
 
-unfoldable pub withRight : ℕ → ℕ → List ℕ → ReadValue
-withRight names n l = cond (eqb (byte_at (drop n l)) colon) (rightBehind names n (name_at (drop (n + 1) l))) ReadValue.Bad
+unfoldable pub with_right : ℕ → ℕ → List ℕ → ReadValue
+with_right names n l = cond (eqb (byte_at (drop n l)) colon) (right_behind names n (name_at (drop (n + 1) l))) ReadValue.Bad
 
 -- "cap | NAME:CLASS"
 abbrev pub cap_of : List ℕ → ReadName → ReadValue
 cap_of l ReadName.Bad = ReadValue.Bad
-cap_of l (ReadName.Found n) = withClass 1 n l
+cap_of l (ReadName.Found n) = with_class 1 n l
 
 abbrev pub cap_at : List ℕ → ReadValue
 cap_at l = cap_of l (name_at l)
 
 -- "floor | NAME+..+NAME:CLASS"
-abbrev pub floorOf : List ℕ → ReadLeft → ReadValue
-floorOf l ReadLeft.Bad = ReadValue.Bad
-floorOf l (ReadLeft.Found x) = withClass x.names x.len l
+abbrev pub floor_of : List ℕ → ReadLeft → ReadValue
+floor_of l ReadLeft.Bad = ReadValue.Bad
+floor_of l (ReadLeft.Found x) = with_class x.names x.len l
 
-abbrev pub floorAt : List ℕ → ReadValue
-floorAt l = floorOf l (left_at l)
+abbrev pub floor_at : List ℕ → ReadValue
+floor_at l = floor_of l (left_at l)
 
 -- "follow | NAME+..+NAME:NAME"
-abbrev pub followOf : List ℕ → ReadLeft → ReadValue
-followOf l ReadLeft.Bad = ReadValue.Bad
-followOf l (ReadLeft.Found x) = withRight x.names x.len l
+abbrev pub follow_of : List ℕ → ReadLeft → ReadValue
+follow_of l ReadLeft.Bad = ReadValue.Bad
+follow_of l (ReadLeft.Found x) = with_right x.names x.len l
 
-abbrev pub followAt : List ℕ → ReadValue
-followAt l = followOf l (left_at l)
+abbrev pub follow_at : List ℕ → ReadValue
+follow_at l = follow_of l (left_at l)
 
 -- "end | COUNT"
 abbrev pub end_of : ReadCount → ReadValue
@@ -79,12 +79,12 @@ end_of ReadCount.Bad = ReadValue.Bad
 end_of (ReadCount.Found x) = unnamed x.value x.len
 
 abbrev pub end_at : List ℕ → ReadValue
-end_at l = end_of (countAt l)
+end_at l = end_of (count_at l)
 
 abbrev pub value_at : Key → List ℕ → ReadValue
-value_at Key.Form l = formAt l
+value_at Key.Form l = form_at l
 value_at Key.Item l = item_at l
 value_at Key.Cap l = cap_at l
-value_at Key.Floor l = floorAt l
-value_at Key.Follow l = followAt l
+value_at Key.Floor l = floor_at l
+value_at Key.Follow l = follow_at l
 value_at Key.End l = end_at l

@@ -6,13 +6,13 @@ use scans::{PLUS, byte_at};
 use tokens::{ReadName, read_name};
 
 // A left side that stands in a text: how many names it has, and its length there, with the plus signs between them.
-#[derive(Drop)]
+#[derive(Clone, Copy)]
 pub struct LeftSide {
     pub names: usize,
     pub len: usize,
 }
 
-#[derive(Drop)]
+#[derive(Clone, Copy)]
 pub enum ReadLeft {
     Found(LeftSide),
     Bad,

@@ -12,14 +12,14 @@ use scans::{LF, byte_at};
 use value::{ReadValue, Value, read_value};
 
 // A line: its key, the length of the key's text, and its value. The LF stands behind the value.
-#[derive(Drop)]
+#[derive(Clone, Copy)]
 pub struct Line {
     pub key: Key,
     pub from: usize,
     pub value: Value,
 }
 
-#[derive(Drop)]
+#[derive(Clone, Copy)]
 pub enum ReadLine {
     Found(Line),
     Bad,

@@ -1,6 +1,6 @@
 // The value of a line: what stands between its `=` and its LF.
 ghost use Rattle.std.specs.Prelude.{◌≡◌, ◌+◌, ◌≤◌, length, drop};
-ghost use Rattle.lines.specs.Values.{unnamed, formAt, item_at, cap_at, floorAt, followAt, end_at, value_at, withClass, withRight};
+ghost use Rattle.lines.specs.Values.{unnamed, form_at, item_at, cap_at, floor_at, follow_at, end_at, value_at, with_class, with_right};
 
 use super::left::{LeftSide, ReadLeft, read_left};
 use classes::Class;
@@ -10,7 +10,7 @@ use tokens::{ReadClass, ReadCount, ReadName, read_class, read_count, read_name};
 
 // A value: how many left names it has, an item's own included, and their length with the plus signs between them; the length of the right name;
 // the class; the count; and the length of the whole value. What a kind of line has not is zero.
-#[derive(Drop)]
+#[derive(Clone, Copy)]
 pub struct Value {
     pub names: usize,
     pub left: usize,
@@ -20,7 +20,7 @@ pub struct Value {
     pub len: usize,
 }
 
-#[derive(Drop)]
+#[derive(Clone, Copy)]
 pub enum ReadValue {
     Found(Value),
     Bad,
@@ -55,7 +55,7 @@ fn unnamed_value(count: u64, len: usize) -> ReadValue
 }
 
 fn form_value(s: &[u8], at: usize) -> ReadValue
-    ensures { result ≡ formAt (drop at s.now) }
+    ensures { result ≡ form_at (drop at s.now) }
 {
     if byte_at(s, at) != DIGIT_1 {
         return ReadValue::Bad;
@@ -89,7 +89,7 @@ fn cap_value(s: &[u8], at: usize) -> ReadValue
 }
 
 fn floor_value(s: &[u8], at: usize) -> ReadValue
-    ensures { result ≡ floorAt (drop at s.now) }
+    ensures { result ≡ floor_at (drop at s.now) }
 {
     let ReadLeft::Found(left) = read_left(s, at) else {
         return ReadValue::Bad;
@@ -98,7 +98,7 @@ fn floor_value(s: &[u8], at: usize) -> ReadValue
 }
 
 fn follow_value(s: &[u8], at: usize) -> ReadValue
-    ensures { result ≡ followAt (drop at s.now) }
+    ensures { result ≡ follow_at (drop at s.now) }
 {
     let ReadLeft::Found(left) = read_left(s, at) else {
         return ReadValue::Bad;
@@ -118,7 +118,7 @@ fn end_value(s: &[u8], at: usize) -> ReadValue
 // A left side at a place, a colon and a class.
 fn with_class(s: &[u8], at: usize, left: LeftSide) -> ReadValue
     requires { at + left.len ≤ length s.now }
-    ensures { result ≡ withClass left.names left.len (drop at s.now) }
+    ensures { result ≡ with_class left.names left.len (drop at s.now) }
 {
     let colon = at + left.len;
     if byte_at(s, colon) != COLON {
@@ -142,7 +142,7 @@ fn with_class(s: &[u8], at: usize, left: LeftSide) -> ReadValue
 // A left side at a place, a colon and a name.
 fn with_right(s: &[u8], at: usize, left: LeftSide) -> ReadValue
     requires { at + left.len ≤ length s.now }
-    ensures { result ≡ withRight left.names left.len (drop at s.now) }
+    ensures { result ≡ with_right left.names left.len (drop at s.now) }
 {
     let colon = at + left.len;
     if byte_at(s, colon) != COLON {

@@ -11,17 +11,17 @@ pub record Lattice (K : Values) : Type 0 where
   pub reflexive : (x : K.Val) → K.Below x x
   pub transitive : (x y z : K.Val) → K.Below x y → K.Below y z → K.Below x z
   pub antisymmetric : (x y : K.Val) → K.Below x y → K.Below y x → x ≡ y
-  pub lowest-below : (x : K.Val) → K.Below K.lowest x
-  pub join-left : (x y : K.Val) → K.Below x (K.join x y)
-  pub join-right : (x y : K.Val) → K.Below y (K.join x y)
-  pub join-least : (x y z : K.Val) → K.Below x z → K.Below y z → K.Below (K.join x y) z
+  pub lowest_below : (x : K.Val) → K.Below K.lowest x
+  pub join_left : (x y : K.Val) → K.Below x (K.join x y)
+  pub join_right : (x y : K.Val) → K.Below y (K.join x y)
+  pub join_least : (x y z : K.Val) → K.Below x z → K.Below y z → K.Below (K.join x y) z
   pub meet : K.Val → K.Val → K.Val
   pub meet_left : (x y : K.Val) → K.Below (meet x y) x
   pub meet_right : (x y : K.Val) → K.Below (meet x y) y
-  pub meet-greatest : (x y z : K.Val) → K.Below z x → K.Below z y → K.Below z (meet x y)
+  pub meet_greatest : (x y z : K.Val) → K.Below z x → K.Below z y → K.Below z (meet x y)
   pub is_below : (x y : K.Val) → K.Is y → K.Below x y → K.Is x
   pub belowb : K.Val → K.Val → Bool
-  pub belowb-holds : (x y : K.Val) → T (belowb x y) → K.Below x y
-  pub below-passes : (x y : K.Val) → K.Below x y → T (belowb x y)
+  pub belowb_holds : (x y : K.Val) → T (belowb x y) → K.Below x y
+  pub below_passes : (x y : K.Val) → K.Below x y → T (belowb x y)
   pub height : K.Val → ℕ
-  pub height-falls : (x y : K.Val) → K.Below x y → (x ≡ y → ⊥) → height x < height y
+  pub height_falls : (x y : K.Val) → K.Below x y → (x ≡ y → ⊥) → height x < height y

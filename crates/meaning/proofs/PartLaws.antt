@@ -9,12 +9,12 @@ pub record PartLaws (P : Parts) : Type 0 where
   pub discrete : (x y : P.values.Val) → Dec (x ≡ y)
   pub below_parts : (x y : P.values.Val) → P.values.Below x y → (p : ℕ) → p < P.count → P.part p x ≤ P.part p y
   pub parts_below : (x y : P.values.Val) → ((p : ℕ) → p < P.count → P.part p x ≤ P.part p y) → P.values.Below x y
-  pub join-parts : (x y : P.values.Val) (p : ℕ) → p < P.count → P.part p (P.values.join x y) ≡ max (P.part p x) (P.part p y)
+  pub join_parts : (x y : P.values.Val) (p : ℕ) → p < P.count → P.part p (P.values.join x y) ≡ max (P.part p x) (P.part p y)
   pub common : P.values.Val → P.values.Val → P.values.Val
-  pub common-parts : (x y : P.values.Val) (p : ℕ) → p < P.count → P.part p (common x y) ≡ min (P.part p x) (P.part p y)
-  pub lowest-parts : (p : ℕ) → p < P.count → P.part p P.values.lowest ≡ 0
-  pub part-top : (x : P.values.Val) → P.values.Is x → (p : ℕ) → p < P.count → P.part p x ≤ P.top p
+  pub common_parts : (x y : P.values.Val) (p : ℕ) → p < P.count → P.part p (common x y) ≡ min (P.part p x) (P.part p y)
+  pub lowest_parts : (p : ℕ) → p < P.count → P.part p P.values.lowest ≡ 0
+  pub part_top : (x : P.values.Val) → P.values.Is x → (p : ℕ) → p < P.count → P.part p x ≤ P.top p
   pub same_parts : (x y : P.values.Val) → P.values.Is x → P.values.Is y → ((p : ℕ) → p < P.count → P.part p x ≡ P.part p y) → x ≡ y
   pub make : (ℕ → ℕ) → P.values.Val
-  pub make-is : (f : ℕ → ℕ) → ((p : ℕ) → p < P.count → f p ≤ P.top p) → P.values.Is (make f)
-  pub make-part : (f : ℕ → ℕ) → ((p : ℕ) → p < P.count → f p ≤ P.top p) → (p : ℕ) → p < P.count → P.part p (make f) ≡ f p
+  pub make_is : (f : ℕ → ℕ) → ((p : ℕ) → p < P.count → f p ≤ P.top p) → P.values.Is (make f)
+  pub make_part : (f : ℕ → ℕ) → ((p : ℕ) → p < P.count → f p ≤ P.top p) → (p : ℕ) → p < P.count → P.part p (make f) ≡ f p

@@ -4,28 +4,28 @@ use mathlib.Core.Path.{◌≡◌, sym, ◌∙◌, subst}
 use Prim.Native.Nat.{ℕ, ◌≤◌, ◌<◌}
 use native.Mathlib.Omega.{arith}
 use Rattle.meaning.specs.Values.{Values, StrictlyBelow}
-use Rattle.meaning.specs.Rules.{Rule, cap, floor, follow, Book, RuleInside, Inside, joinOver, Met}
+use Rattle.meaning.specs.Rules.{Rule, cap, floor, follow, Book, RuleInside, Inside, join_over, Met}
 use Rattle.meaning.specs.Labelling.{Labelling, FirstDifference, Wanted}
 use Rattle.meaning.specs.InnerLowered.{AgreeBefore, Lowered}
-use Rattle.meaning.proofs.Joins.{joinOver-same}
+use Rattle.meaning.proofs.Joins.{join_over_same}
 
 -- A rule that is met is met by equal labels.
-pub met-same : (K : Values) (n : ℕ) (r : Rule K.Val) → RuleInside n r → {f g : ℕ → K.Val} → ((i : ℕ) → i < n → f i ≡ g i) → Met K r f → Met K r g
-met-same K n (cap i v) s h m = subst (λ x. K.Below x v) (h i s) m
-met-same K n (floor l v) s h m = subst (λ x. K.Below v x) (joinOver-same K s h) m
-met-same K n (follow l i) s {f} {g} h m =
-    subst (λ x. K.Below x (joinOver K l g)) (h i s.1) (subst (λ x. K.Below (f i) x) (joinOver-same K s.0 h) m)
+pub met_same : (K : Values) (n : ℕ) (r : Rule K.Val) → RuleInside n r → {f g : ℕ → K.Val} → ((i : ℕ) → i < n → f i ≡ g i) → Met K r f → Met K r g
+met_same K n (cap i v) s h m = subst (λ x. K.Below x v) (h i s) m
+met_same K n (floor l v) s h m = subst (λ x. K.Below v x) (join_over_same K s h) m
+met_same K n (follow l i) s {f} {g} h m =
+    subst (λ x. K.Below x (join_over K l g)) (h i s.1) (subst (λ x. K.Below (f i) x) (join_over_same K s.0 h) m)
 
 -- A labelling, and a wanted one, is so by the labels of the book's items alone.
-pub labelling-same : (K : Values) (b : Book K.Val) → Inside b → {f g : ℕ → K.Val} → ((i : ℕ) → i < b.items → f i ≡ g i) → Labelling K b f → Labelling K b g
-labelling-same K b inside h x = record {
+pub labelling_same : (K : Values) (b : Book K.Val) → Inside b → {f g : ℕ → K.Val} → ((i : ℕ) → i < b.items → f i ≡ g i) → Labelling K b f → Labelling K b g
+labelling_same K b inside h x = record {
   labels = λ i s. subst K.Is (h i s) (x.labels i s);
-  meets = λ r s. met-same K b.items (b.rule r) (inside.inside r s) h (x.meets r s);
+  meets = λ r s. met_same K b.items (b.rule r) (inside.inside r s) h (x.meets r s);
 }
 
-pub wanted-same : (K : Values) (b : Book K.Val) → Inside b → {f g : ℕ → K.Val} → ((i : ℕ) → i < b.items → f i ≡ g i) → Wanted K b f → Wanted K b g
-wanted-same K b inside {f} {g} h x = record {
-  labelling = labelling-same K b inside h x.labelling;
+pub wanted_same : (K : Values) (b : Book K.Val) → Inside b → {f g : ℕ → K.Val} → ((i : ℕ) → i < b.items → f i ≡ g i) → Wanted K b f → Wanted K b g
+wanted_same K b inside {f} {g} h x = record {
+  labelling = labelling_same K b inside h x.labelling;
   least = λ k y i d. subst (λ v. StrictlyBelow K v (k i)) (h i d.item) (x.least k y i (moved k i d));
 }
   where
@@ -33,10 +33,10 @@ wanted-same K b inside {f} {g} h x = record {
     moved k i d = record { item = d.item; before = λ j l. h j (omega (arith, d.item)) ∙ d.before j l; differs = λ e. d.differs (sym (h i d.item) ∙ e) }
 
 -- So is how far labels are lowered.
-pub lowered-same : (K : Values) (b : Book K.Val) → Inside b → {u f g : ℕ → K.Val} {i : ℕ} → i ≤ b.items → ((j : ℕ) → j < b.items → f j ≡ g j) → Lowered K b u i f → Lowered K b u i g
-lowered-same K b inside {u} {f} {g} {i} small h x = record {
+pub lowered_same : (K : Values) (b : Book K.Val) → Inside b → {u f g : ℕ → K.Val} {i : ℕ} → i ≤ b.items → ((j : ℕ) → j < b.items → f j ≡ g j) → Lowered K b u i f → Lowered K b u i g
+lowered_same K b inside {u} {f} {g} {i} small h x = record {
   below = record {
-    labelling = labelling-same K b inside h x.below.labelling;
+    labelling = labelling_same K b inside h x.below.labelling;
     under = λ j s. subst (λ v. K.Below v (u j)) (h j s) (x.below.under j s);
   };
   greatest = λ k y agree j s. subst (λ v. K.Below (k j) v) (h j s) (x.greatest k y (back i small agree) j s);

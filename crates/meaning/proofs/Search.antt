@@ -9,7 +9,7 @@ use native.Mathlib.Nat.{not-suc-le-zero}
 use native.Mathlib.Omega.{arith}
 use borrow.Author.Count.{below_more}
 use lib.Dec.{T}
-use Rattle.laws.specs.Every.{everyBelow}
+use Rattle.laws.specs.Every.{every_below}
 use Rattle.laws.proofs.Bools as bools
 use Rattle.laws.proofs.Every as every
 
@@ -18,20 +18,20 @@ is_true : (b : Bool) → T b → b ≡ true
 is_true true t = refl
 is_true false t = absurd t
 
-true-is : {b : Bool} → b ≡ true → T b
-true-is e = subst T (sym e) tt
+true_is : {b : Bool} → b ≡ true → T b
+true_is e = subst T (sym e) tt
 
 pub and_left : (a b : Bool) → T (a && b) → T a
-and_left a b t = true-is (bools.and_left a b (is_true (a && b) t))
+and_left a b t = true_is (bools.and_left a b (is_true (a && b) t))
 
 pub and_right : (a b : Bool) → T (a && b) → T b
-and_right a b t = true-is (bools.and_right a b (is_true (a && b) t))
+and_right a b t = true_is (bools.and_right a b (is_true (a && b) t))
 
-pub every-at : (n : ℕ) (f : ℕ → Bool) → T (everyBelow n f) → (k : ℕ) → k < n → T (f k)
-every-at n f t k l = true-is (every.every-at n f (is_true (everyBelow n f) t) k l)
+pub every_at : (n : ℕ) (f : ℕ → Bool) → T (every_below n f) → (k : ℕ) → k < n → T (f k)
+every_at n f t k l = true_is (every.every_at n f (is_true (every_below n f) t) k l)
 
-pub every-all : (n : ℕ) (f : ℕ → Bool) → ((k : ℕ) → k < n → T (f k)) → T (everyBelow n f)
-every-all n f h = true-is (every.every-all n f (λ k l. is_true (f k) (h k l)))
+pub every_all : (n : ℕ) (f : ℕ → Bool) → ((k : ℕ) → k < n → T (f k)) → T (every_below n f)
+every_all n f h = true_is (every.every_all n f (λ k l. is_true (f k) (h k l)))
 
 -- A statement of each number below n, and of n, is one of each number below n + 1.
 pub below_suc : {P : ℕ → Type 0} {n : ℕ} → ((k : ℕ) → k < n → P k) → P n → (k : ℕ) → k < suc n → P k
@@ -47,17 +47,17 @@ abbrev pub Failing : ℕ → (ℕ → Bool) → Option ℕ → Type 0
 Failing n f none = (k : ℕ) → k < n → T (f k)
 Failing n f (some k) = (k < n) × (T (f k) → ⊥)
 
-failing-step : (n : ℕ) (f : ℕ → Bool) (o : Option ℕ) → Failing n f o → T (f n) → Failing (suc n) f o
-failing-step n f none h t = below_suc {P = λ k. T (f k)} h t
-failing-step n f (some k) h t = (omega (arith, h.0), h.1)
+failing_step : (n : ℕ) (f : ℕ → Bool) (o : Option ℕ) → Failing n f o → T (f n) → Failing (suc n) f o
+failing_step n f none h t = below_suc {P = λ k. T (f k)} h t
+failing_step n f (some k) h t = (omega (arith, h.0), h.1)
 
-pub failing-tells : (n : ℕ) (f : ℕ → Bool) → Failing n f (failing n f)
+pub failing_tells : (n : ℕ) (f : ℕ → Bool) → Failing n f (failing n f)
 unfolding failing
-failing-tells zero f = λ k l. absurd (not-suc-le-zero l)
-failing-tells (suc n) f = go (failing-tells n f) (f n) (λ t. t) (λ t. t)
+failing_tells zero f = λ k l. absurd (not-suc-le-zero l)
+failing_tells (suc n) f = go (failing_tells n f) (f n) (λ t. t) (λ t. t)
   where
     go : Failing n f (failing n f) → (b : Bool) → (T (f n) → T b) → (T b → T (f n)) → Failing (suc n) f (elim b [ true ↦ failing n f | false ↦ some n ])
-    go below true from to = failing-step n f (failing n f) below (to tt)
+    go below true from to = failing_step n f (failing n f) below (to tt)
     go below false from to = (omega arith, from)
 
 -- v is the first number of which the test says yes.
@@ -78,8 +78,8 @@ found_below f (suc n) = go (found_below f n) (f n) (λ t. t) (λ t. t)
     go (inr none_below) false from to = inr (below_suc {P = λ k. T (f k) → ⊥} none_below from)
 
 -- Where the test says yes of m, there is a first number of which it does.
-pub first-yes : (f : ℕ → Bool) (m : ℕ) → T (f m) → (v : ℕ) × (v ≤ m) × FirstYes f v
-first-yes f m t = go (found_below f (suc m))
+pub first_yes : (f : ℕ → Bool) (m : ℕ) → T (f m) → (v : ℕ) × (v ≤ m) × FirstYes f v
+first_yes f m t = go (found_below f (suc m))
   where
     go : ((v : ℕ) × (v < suc m) × FirstYes f v) ⊎ ((w : ℕ) → w < suc m → T (f w) → ⊥) → (v : ℕ) × (v ≤ m) × FirstYes f v
     go (inl (v, l, y)) = (v, omega arith, y)

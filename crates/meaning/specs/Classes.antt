@@ -10,8 +10,8 @@ use Rattle.meaning.specs.Parts.{Parts}
 abbrev pub classes : Values
 classes = record { Val = Class; Is = IsClass; Below = λ x y. Covers y x; lowest = lowest; join = joined }
 
-abbrev pub classParts : Parts
-classParts = record { values = classes; count = part_count; top = top_of; part = part }
+abbrev pub class_parts : Parts
+class_parts = record { values = classes; count = part_count; top = top_of; part = part }
 
 -- Two classes agree in part p: for part 0 they have the same level, for part k + 1 mark k is "in both .. or in neither".
 abbrev pub ClassesAgree : ℕ → Class → Class → Type 0

@@ -6,7 +6,7 @@ use Rattle.classes.specs.declared.Class.{Class}
 use Rattle.meaning.specs.Rules.{Left, Rule, cap, floor, follow, Book}
 use Rattle.meaning.specs.Labelling.{Wanted}
 use Rattle.meaning.specs.Parts.{Refused}
-use Rattle.meaning.specs.Classes.{classes, classParts}
+use Rattle.meaning.specs.Classes.{classes, class_parts}
 
 -- What is to be said of a book: its labels in book order, or that it is refused with 9 at a part.
 pub data Answer : Type 0 where
@@ -23,7 +23,7 @@ listed l i = get_or l i lowest
 -- The answer is right by the definitions: the labels are the wanted ones, or the part is the refused one.
 abbrev pub Right : Book Class → Answer → Type 0
 Right b (labels l) = (length l ≡ b.items) × Wanted classes b (listed l)
-Right b (refused p) = Refused classParts b p
+Right b (refused p) = Refused class_parts b p
 
 -- a left side of one item, and of two
 abbrev one : ℕ → Left
@@ -33,11 +33,11 @@ abbrev two : ℕ → ℕ → Left
 two i j = record { count = 2; item = λ k. get_or (i ∷ j ∷ []) k 0 }
 
 -- so many items, and the rules in table order
-abbrev bookOf : ℕ → List (Rule Class) → Book Class
-bookOf n rs = record { items = n; rules = length rs; rule = λ r. get_or rs r (cap 0 lowest) }
+abbrev book_of : ℕ → List (Rule Class) → Book Class
+book_of n rs = record { items = n; rules = length rs; rule = λ r. get_or rs r (cap 0 lowest) }
 
 abbrev given : ℕ → List (Rule Class) → Answer → Example
-given n rs a = record { book = bookOf n rs; answer = a }
+given n rs a = record { book = book_of n rs; answer = a }
 
 -- level l with the marks m
 abbrev c : ℕ → ℕ → Class
@@ -82,14 +82,14 @@ p10 =
     (floor (one 2) (c 2 0) ∷ follow (one 0) 1 ∷ follow (one 1) 2 ∷ follow (one 2) 0 ∷ [])
     (labels (c 2 0 ∷ c 2 0 ∷ c 2 0 ∷ []))
 
-abbrev pub p11-low : Example
-p11-low = given 1 (cap 0 (c 3 3) ∷ cap 0 (c 5 1) ∷ floor (one 0) (c 3 1) ∷ []) (labels (c 3 1 ∷ []))
+abbrev pub p11_low : Example
+p11_low = given 1 (cap 0 (c 3 3) ∷ cap 0 (c 5 1) ∷ floor (one 0) (c 3 1) ∷ []) (labels (c 3 1 ∷ []))
 
-abbrev pub p11-high : Example
-p11-high = given 1 (cap 0 (c 3 3) ∷ cap 0 (c 5 1) ∷ floor (one 0) (c 4 1) ∷ []) (refused 0)
+abbrev pub p11_high : Example
+p11_high = given 1 (cap 0 (c 3 3) ∷ cap 0 (c 5 1) ∷ floor (one 0) (c 4 1) ∷ []) (refused 0)
 
 abbrev pub p12 : Example
 p12 = given 2 (cap 0 (c 1 0) ∷ floor (one 1) (c 2 0) ∷ follow (one 0) 1 ∷ []) (refused 0)
 
 abbrev pub examples : List Example
-examples = p1 ∷ p2 ∷ p3 ∷ p4 ∷ p5 ∷ p6 ∷ p7 ∷ p8 ∷ p9 ∷ p10 ∷ p11-low ∷ p11-high ∷ p12 ∷ []
+examples = p1 ∷ p2 ∷ p3 ∷ p4 ∷ p5 ∷ p6 ∷ p7 ∷ p8 ∷ p9 ∷ p10 ∷ p11_low ∷ p11_high ∷ p12 ∷ []

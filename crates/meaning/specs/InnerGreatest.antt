@@ -3,7 +3,7 @@
 -- Assumes nothing.
 use Rattle.std.specs.Prelude.{◌≡◌, ℕ, ◌<◌}
 use Rattle.meaning.specs.Values.{Values}
-use Rattle.meaning.specs.Rules.{Rule, cap, floor, follow, Book, joinOver, Met}
+use Rattle.meaning.specs.Rules.{Rule, cap, floor, follow, Book, join_over, Met}
 
 -- The rule is a floor, or it is met.
 abbrev pub MetDown : (K : Values) → Rule K.Val → (ℕ → K.Val) → Type 0
@@ -45,4 +45,4 @@ pub record Placed {A : Type 0} (n : ℕ) (f : ℕ → A) (i : ℕ) (v : A) (g : 
 abbrev pub Pushed : (K : Values) → (K.Val → K.Val → K.Val) → ℕ → Rule K.Val → (ℕ → K.Val) → (ℕ → K.Val) → Type 0
 Pushed K common n (cap i v) f g = Placed n f i (common (f i) v) g
 Pushed K common n (floor l v) f g = (j : ℕ) → j < n → g j ≡ f j
-Pushed K common n (follow l i) f g = Placed n f i (common (f i) (joinOver K l f)) g
+Pushed K common n (follow l i) f g = Placed n f i (common (f i) (join_over K l f)) g

@@ -4,7 +4,7 @@ use Rattle.std.specs.Prelude.{◌≡◌, ℕ, ◌≤◌, ◌<◌}
 use Rattle.meaning.specs.Values.{Values, StrictlyBelow, numbers}
 use Rattle.meaning.specs.Rules.{Book}
 use Rattle.meaning.specs.Labelling.{Labelling, FirstDifference}
-use Rattle.meaning.specs.Parts.{Parts, inPart, partValues}
+use Rattle.meaning.specs.Parts.{Parts, in_part, part_values}
 
 -- The two agree on the items before i.
 abbrev pub AgreeBefore : {A : Type 0} → ℕ → (ℕ → A) → (ℕ → A) → Type 0
@@ -33,6 +33,6 @@ pub record WantedBelow (K : Values) (b : Book K.Val) (u f : ℕ → K.Val) : Typ
 
 -- Part p is the lowest part in which no labelling below the bound u meets all rules.
 pub record RefusedBelow (P : Parts) (b : Book P.values.Val) (u : ℕ → P.values.Val) (p : ℕ) : Type 0 where
-  pub isPart : p < P.count
-  pub unmet : (f : ℕ → ℕ) → LabellingBelow (partValues P p) (inPart P p b) (λ i. P.part p (u i)) f → ⊥
-  pub lower : (q : ℕ) → q < p → (f : ℕ → ℕ) × LabellingBelow (partValues P q) (inPart P q b) (λ i. P.part q (u i)) f
+  pub is_part : p < P.count
+  pub unmet : (f : ℕ → ℕ) → LabellingBelow (part_values P p) (in_part P p b) (λ i. P.part p (u i)) f → ⊥
+  pub lower : (q : ℕ) → q < p → (f : ℕ → ℕ) × LabellingBelow (part_values P q) (in_part P q b) (λ i. P.part q (u i)) f

@@ -2,14 +2,14 @@
 -- Assumes nothing.
 use Rattle.std.specs.Prelude.{◌≡◌, ℕ, ◌≤◌, ◌<◌, max}
 use Rattle.meaning.specs.Values.{Values, numbers}
-use Rattle.meaning.specs.Rules.{Left, Rule, cap, floor, follow, Book, joinOver, Met}
+use Rattle.meaning.specs.Rules.{Left, Rule, cap, floor, follow, Book, join_over, Met}
 use Rattle.meaning.specs.Labelling.{Labelling}
 
 -- The rule is met with v joined to its left labels. A cap has none to join it to.
 abbrev pub MetWith : (K : Values) → K.Val → Rule K.Val → (ℕ → K.Val) → Type 0
 MetWith K v (cap i c) f = K.Below (f i) c
-MetWith K v (floor l c) f = K.Below c (K.join (joinOver K l f) v)
-MetWith K v (follow l i) f = K.Below (f i) (K.join (joinOver K l f) v)
+MetWith K v (floor l c) f = K.Below c (K.join (join_over K l f) v)
+MetWith K v (follow l i) f = K.Below (f i) (K.join (join_over K l f) v)
 
 -- Every rule is met so.
 pub record MeetsWith (K : Values) (b : Book K.Val) (v : K.Val) (f : ℕ → K.Val) : Type 0 where

@@ -15,10 +15,10 @@ pub data Rule (A : Type 0) : Type 0 where
   follow : Left → ℕ → Rule A
 
 -- The same line with other constants.
-abbrev pub mapRule : {A B : Type 0} → (A → B) → Rule A → Rule B
-mapRule f (cap i v) = cap i (f v)
-mapRule f (floor l v) = floor l (f v)
-mapRule f (follow l i) = follow l i
+abbrev pub map_rule : {A B : Type 0} → (A → B) → Rule A → Rule B
+map_rule f (cap i v) = cap i (f v)
+map_rule f (floor l v) = floor l (f v)
+map_rule f (follow l i) = follow l i
 
 -- A book: the number of its items, and its rules in table order.
 pub record Book (A : Type 0) : Type 0 where
@@ -27,8 +27,8 @@ pub record Book (A : Type 0) : Type 0 where
   pub rule : ℕ → Rule A
 
 -- The book of the same lines with other constants.
-abbrev pub mapBook : {A B : Type 0} → (A → B) → Book A → Book B
-mapBook f b = record { items = b.items; rules = b.rules; rule = λ r. mapRule f (b.rule r) }
+abbrev pub map_book : {A B : Type 0} → (A → B) → Book A → Book B
+map_book f b = record { items = b.items; rules = b.rules; rule = λ r. map_rule f (b.rule r) }
 
 -- The same items, and the same rules in the same order.
 pub record SameBooks {A : Type 0} (b c : Book A) : Type 0 where
@@ -49,17 +49,17 @@ pub record Inside {A : Type 0} (b : Book A) : Type 0 where
   pub inside : (r : ℕ) → r < b.rules → RuleInside b.items (b.rule r)
 
 -- The join of the first n values of f, which is the lowest value where n is 0.
-abbrev pub joinUpTo : (K : Values) → ℕ → (ℕ → K.Val) → K.Val
-joinUpTo K zero f = K.lowest
-joinUpTo K (suc n) f = K.join (joinUpTo K n f) (f n)
+abbrev pub join_up_to : (K : Values) → ℕ → (ℕ → K.Val) → K.Val
+join_up_to K zero f = K.lowest
+join_up_to K (suc n) f = K.join (join_up_to K n f) (f n)
 
 -- The join of the left labels.
-abbrev pub joinOver : (K : Values) → Left → (ℕ → K.Val) → K.Val
-joinOver K l labels = joinUpTo K l.count (λ k. labels (l.item k))
+abbrev pub join_over : (K : Values) → Left → (ℕ → K.Val) → K.Val
+join_over K l labels = join_up_to K l.count (λ k. labels (l.item k))
 
 -- cap: the constant covers the item's label. floor: the join of the left labels covers the constant.
 -- follow: the join of the left labels covers the right label.
 abbrev pub Met : (K : Values) → Rule K.Val → (ℕ → K.Val) → Type 0
 Met K (cap i v) labels = K.Below (labels i) v
-Met K (floor l v) labels = K.Below v (joinOver K l labels)
-Met K (follow l i) labels = K.Below (labels i) (joinOver K l labels)
+Met K (floor l v) labels = K.Below v (join_over K l labels)
+Met K (follow l i) labels = K.Below (labels i) (join_over K l labels)

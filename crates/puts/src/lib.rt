@@ -2,9 +2,9 @@
 // the buffer's end, its length plus one, at which nothing has room; else it answers the place after what it put. So where several are put one
 // behind the other, the last answer tells whether there was room for all of them.
 ghost use Rattle.std.specs.Prelude.{◌≡◌, ◌+◌, ◌<◌, leb};
-ghost use Rattle.keys.specs.Keys.{keyText};
-ghost use Rattle.tokens.specs.Numbers.{digit, decimalLen};
-ghost use Rattle.tokens.specs.Tokens.{countText, classText};
+ghost use Rattle.keys.specs.Keys.{key_text};
+ghost use Rattle.tokens.specs.Numbers.{digit, decimal_len};
+ghost use Rattle.tokens.specs.Tokens.{count_text, class_text};
 ghost use Rattle.puts.specs.Writing.{Put};
 ghost use Rattle.puts.specs.InnerDigits.{DigitRoom, DigitsPut};
 
@@ -35,7 +35,7 @@ pub fn put(bytes: &[u8], out: &mut [u8], at: usize) -> usize
 
 // Puts a key with its `=`.
 pub fn put_key(key: Key, out: &mut [u8], at: usize) -> usize
-    ensures { Put out.old at (keyText key) out.new result }
+    ensures { Put out.old at (key_text key) out.new result }
 {
     match key {
         Key::Form => put(&FORM_KEY, out, at),
@@ -49,7 +49,7 @@ pub fn put_key(key: Key, out: &mut [u8], at: usize) -> usize
 
 // Puts a count in decimal with no leading zero; of a number over 99,999 the last five digits.
 pub fn put_count(n: u64, out: &mut [u8], at: usize) -> usize
-    ensures { Put out.old at (countText n) out.new result }
+    ensures { Put out.old at (count_text n) out.new result }
 {
     let k = decimal_len(n);
     if !has_room(out.len(), at, k) {
@@ -60,7 +60,7 @@ pub fn put_count(n: u64, out: &mut [u8], at: usize) -> usize
 
 // Puts a class: the level as a count is put, a slash, and the marks in sixteen lower-case hex digits.
 pub fn put_class(class: Class, out: &mut [u8], at: usize) -> usize
-    ensures { Put out.old at (classText class) out.new result }
+    ensures { Put out.old at (class_text class) out.new result }
 {
     let k = decimal_len(class.level);
     if !has_room(out.len(), at, k + BEHIND_LEVEL) {
@@ -110,7 +110,7 @@ fn digit_byte(d: u64) -> u8
 
 // How many decimal digits a number has with no leading zero, at most those of a count.
 fn decimal_len(n: u64) -> usize
-    ensures { result ≡ decimalLen n }
+    ensures { result ≡ decimal_len n }
 {
     if n < 10 {
         return 1;

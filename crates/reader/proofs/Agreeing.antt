@@ -6,12 +6,12 @@ use Prim.Native.Nat.{ℕ}
 use Rattle.rules.specs.declared.Head.{Head}
 use Rattle.rules.specs.Agreeing.{TablesAgree}
 use Rattle.reader.specs.declared.ReadBook.{ReadBook}
-use Rattle.reader.specs.Reading.{readText, readWhole}
+use Rattle.reader.specs.Reading.{read_text, read_whole}
 use Rattle.reader.specs.Agreeing.{TextsAgree}
 use Rattle.reader.proofs.Unique.{same_head}
 
-pub texts-agree : {p : ℕ} {l m : List ℕ} {h k : Head} → TextsAgree p l m → readWhole l ≡ ReadBook.Book h → readWhole m ≡ ReadBook.Book k
-    → TablesAgree p h (readText l).words k (readText m).words
-texts-agree {p} {l} {m} {h} a e f =
-    subst (λ (k : Head). TablesAgree p h (readText l).words k (readText m).words) (same_head f a.read')
-    (subst (λ (h : Head). TablesAgree p h (readText l).words a.head' (readText m).words) (same_head e a.read) a.rules)
+pub texts_agree : {p : ℕ} {l m : List ℕ} {h k : Head} → TextsAgree p l m → read_whole l ≡ ReadBook.Book h → read_whole m ≡ ReadBook.Book k
+    → TablesAgree p h (read_text l).words k (read_text m).words
+texts_agree {p} {l} {m} {h} a e f =
+    subst (λ (k : Head). TablesAgree p h (read_text l).words k (read_text m).words) (same_head f a.read')
+    (subst (λ (h : Head). TablesAgree p h (read_text l).words a.head' (read_text m).words) (same_head e a.read) a.rules)

@@ -8,88 +8,88 @@ use native.Mathlib.Omega.{arith}
 use lib.ListN.{length, take, drop}
 use lib.Seq.{length-take-le}
 use borrow.Author.Tests.{lt-ltb, le-ltb, le-leb, lt-leb}
-use Rattle.refusals.specs.Sizes.{mostText}
+use Rattle.refusals.specs.Sizes.{most_text}
 use Rattle.refusals.specs.declared.Fault.{Fault}
 use Rattle.refusals.specs.declared.Refusal.{Refusal}
-use Rattle.items.specs.Names.{nameRoom}
-use Rattle.rules.specs.Table.{ruleWords, WordsPut}
+use Rattle.items.specs.Names.{name_room}
+use Rattle.rules.specs.Table.{rule_words, WordsPut}
 use Rattle.rules.specs.declared.Head.{Head}
-use Rattle.rules.proofs.Put.{put-told}
+use Rattle.rules.proofs.Put.{put_told}
 use Rattle.puts.specs.Writing.{Put}
-use Rattle.puts.proofs.Placed.{put-buffer}
+use Rattle.puts.proofs.Placed.{put_buffer}
 use Rattle.reader.specs.declared.ReadBook.{ReadBook}
-use Rattle.reader.specs.Lines.{Result, refusedAt, emptyNames, emptyWords}
-use Rattle.reader.specs.Reading.{saidRead, readText, fitted, readAnswer, ReadSays}
+use Rattle.reader.specs.Lines.{Result, refused_at, empty_names, empty_words}
+use Rattle.reader.specs.Reading.{said_read, read_text, fitted, read_answer, ReadSays}
 use Rattle.reader.specs.InnerLines.{StartsEmpty, Gives, Holds, CopiedOut}
 use Rattle.reader.proofs.ReadRight.{read_right}
 
-pub starts-empty : {text names words : List ℕ} → length text ≤ mostText → names ≡ emptyNames → words ≡ emptyWords → StartsEmpty text names words
-starts-empty h e f = record { text = h; names-empty = e; words-empty = f }
+pub starts_empty : {text names words : List ℕ} → length text ≤ most_text → names ≡ empty_names → words ≡ empty_words → StartsEmpty text names words
+starts_empty h e f = record { text = h; names_empty = e; words_empty = f }
 
 -- The tables of a book, copied to lent ones.
 module _ {h : Head} {names words items rules : List ℕ} where
-  pub no_items : {r : ReadBook} → length items < h.items * nameRoom → r ≡ refusedAt Fault.NoRoom 0 → CopiedOut h names words items rules r items rules
-  no_items i e = record { answer = rw (e, lt-leb (h.items * nameRoom) (length items) i); items-after = rw e; rules-after = rw e }
+  pub no_items : {r : ReadBook} → length items < h.items * name_room → r ≡ refused_at Fault.NoRoom 0 → CopiedOut h names words items rules r items rules
+  no_items i e = record { answer = rw (e, lt-leb (h.items * name_room) (length items) i); items_are = rw e; rules_are = rw e }
 
-  module _ (i : h.items * nameRoom ≤ length items) where
-    pub no-rules : {r : ReadBook} → length rules < h.rules * ruleWords → r ≡ refusedAt Fault.NoRoom 0 → CopiedOut h names words items rules r items rules
-    no-rules j e = record {
-      answer = rw (e, le-leb (h.items * nameRoom) (length items) i, lt-leb (h.rules * ruleWords) (length rules) j);
-      items-after = rw e;
-      rules-after = rw e;
+  module _ (i : h.items * name_room ≤ length items) where
+    pub no_rules : {r : ReadBook} → length rules < h.rules * rule_words → r ≡ refused_at Fault.NoRoom 0 → CopiedOut h names words items rules r items rules
+    no_rules j e = record {
+      answer = rw (e, le-leb (h.items * name_room) (length items) i, lt-leb (h.rules * rule_words) (length rules) j);
+      items_are = rw e;
+      rules_are = rw e;
     }
 
-    pub copied-book : h.rules * ruleWords ≤ length rules → Holds h names words → {items' : List ℕ} {q : ℕ}
-        → Put items 0 (take (h.items * nameRoom - 0) (drop 0 names)) items' q → {b : Bool} {rules' : List ℕ}
-        → WordsPut (take (h.rules * ruleWords - 0) (drop 0 words)) 0 rules b rules' → CopiedOut h names words items rules (ReadBook.Book h) items' rules'
-    copied-book j t p r = record {
-      answer = rw (le-leb (h.items * nameRoom) (length items) i, le-leb (h.rules * ruleWords) (length rules) j);
-      items-after = put-buffer (rw bytes at p) (omega (arith, i, length-take-le (h.items * nameRoom) names t.items));
-      rules-after = put-told (rw size at r) (omega (arith, j, length-take-le (h.rules * ruleWords) words t.rules));
+    pub copied_book : h.rules * rule_words ≤ length rules → Holds h names words → {items' : List ℕ} {q : ℕ}
+        → Put items 0 (take (h.items * name_room - 0) (drop 0 names)) items' q → {b : Bool} {rules' : List ℕ}
+        → WordsPut (take (h.rules * rule_words - 0) (drop 0 words)) 0 rules b rules' → CopiedOut h names words items rules (ReadBook.Book h) items' rules'
+    copied_book j t p r = record {
+      answer = rw (le-leb (h.items * name_room) (length items) i, le-leb (h.rules * rule_words) (length rules) j);
+      items_are = put_buffer (rw bytes at p) (omega (arith, i, length-take-le (h.items * name_room) names t.items));
+      rules_are = put_told (rw size at r) (omega (arith, j, length-take-le (h.rules * rule_words) words t.rules));
     }
       where
-        bytes : h.items * nameRoom - 0 ≡ h.items * nameRoom
+        bytes : h.items * name_room - 0 ≡ h.items * name_room
         bytes = omega arith
 
-        size : h.rules * ruleWords - 0 ≡ h.rules * ruleWords
+        size : h.rules * rule_words - 0 ≡ h.rules * rule_words
         size = omega arith
 
 -- The text is too long.
-pub says-too-long : {text items rules : List ℕ} {r : ReadBook} → mostText < length text → r ≡ refusedAt Fault.TooLong 0
-    → ReadSays text items rules (saidRead r) items rules
-unfolding readAnswer
-says-too-long {text} h e =
-    let long = lt-ltb mostText (length text) h in
-    record { answer = rw (e, long); items-after = rw long; rules-after = rw long }
+pub says_too_long : {text items rules : List ℕ} {r : ReadBook} → most_text < length text → r ≡ refused_at Fault.TooLong 0
+    → ReadSays text items rules (said_read r) items rules
+unfolding read_answer
+says_too_long {text} h e =
+    let long = lt-ltb most_text (length text) h in
+    record { answer = rw (e, long); items_are = rw long; rules_are = rw long }
 
 -- The text gives the answer a with these tables.
 module _ {text : List ℕ} {a : ReadBook} {names words : List ℕ} (e : Gives text a names words) where
-  given : (readText text).answer ≡ a
+  given : (read_text text).answer ≡ a
   given = ap (λ (r : Result). r.answer) e.result
 
   -- A book's tables are right, and so they hold its items and rules.
-  pub holds-book : {h : Head} → a ≡ ReadBook.Book h → Holds h names words
-  holds-book g =
+  pub holds_book : {h : Head} → a ≡ ReadBook.Book h → Holds h names words
+  holds_book g =
       let right = rw e.result at (read_right text (given ∙ g)) in
       record { items = right.items.room; rules = right.rules.room }
 
-  module _ (short : length text ≤ mostText) where
-    whole : (n m : ℕ) → readAnswer text n m ≡ fitted n m a
-    unfolding readAnswer
-    whole n m = rw (le-ltb mostText (length text) short, given)
+  module _ (short : length text ≤ most_text) where
+    whole : (n m : ℕ) → read_answer text n m ≡ fitted n m a
+    unfolding read_answer
+    whole n m = rw (le-ltb most_text (length text) short, given)
 
-    pub says-refused : {items rules : List ℕ} {f : Refusal} → a ≡ ReadBook.Refused f → ReadSays text items rules (saidRead a) items rules
-    says-refused {items} {rules} g =
+    pub says_refused : {items rules : List ℕ} {f : Refusal} → a ≡ ReadBook.Refused f → ReadSays text items rules (said_read a) items rules
+    says_refused {items} {rules} g =
         let same = whole (length items) (length rules) in
-        record { answer = rw (same, g); items-after = rw (same, g); rules-after = rw (same, g) }
+        record { answer = rw (same, g); items_are = rw (same, g); rules_are = rw (same, g) }
 
-    pub says-book : {h : Head} → a ≡ ReadBook.Book h → {items rules : List ℕ} {r : ReadBook} {items' rules' : List ℕ}
-        → CopiedOut h names words items rules r items' rules' → ReadSays text items rules (saidRead r) items' rules'
-    says-book g {items} {rules} {r} d = record {
-      answer = ap saidRead (sym same);
-      items-after = rw (same, e.result) d.items-after;
-      rules-after = rw (same, e.result) d.rules-after;
+    pub says_book : {h : Head} → a ≡ ReadBook.Book h → {items rules : List ℕ} {r : ReadBook} {items' rules' : List ℕ}
+        → CopiedOut h names words items rules r items' rules' → ReadSays text items rules (said_read r) items' rules'
+    says_book g {items} {rules} {r} d = record {
+      answer = ap said_read (sym same);
+      items_are = rw (same, e.result) d.items_are;
+      rules_are = rw (same, e.result) d.rules_are;
     }
       where
-        same : readAnswer text (length items) (length rules) ≡ r
+        same : read_answer text (length items) (length rules) ≡ r
         same = whole (length items) (length rules) ∙ rw g (sym d.answer)

@@ -16,12 +16,12 @@ use Rattle.scans.specs.Bytes.{byte_at}
 use Rattle.keys.specs.Keys.{key_at}
 use Rattle.keys.specs.declared.Key.{Key}
 use Rattle.keys.specs.declared.ReadKey.{ReadKey}
-use Rattle.tokens.specs.Tokens.{name_at, countFound, countAt, classFound, class_at}
+use Rattle.tokens.specs.Tokens.{name_at, count_found, count_at, class_found, class_at}
 use Rattle.tokens.specs.declared.ReadName.{ReadName}
 use Rattle.tokens.specs.declared.ReadCount.{ReadCount}
 use Rattle.tokens.specs.declared.ReadClass.{ReadClass}
 use Rattle.lines.specs.Left.{left_at}
-use Rattle.lines.specs.Values.{unnamed, formAt, item_of, item_at, cap_of, cap_at, floorOf, floorAt, followOf, followAt, end_of, end_at, classBehind, withClass, rightBehind, withRight, value_at}
+use Rattle.lines.specs.Values.{unnamed, form_at, item_of, item_at, cap_of, cap_at, floor_of, floor_at, follow_of, follow_at, end_of, end_at, class_behind, with_class, right_behind, with_right, value_at}
 use Rattle.lines.specs.Lines.{ended, line_of, line_at}
 use Rattle.lines.specs.declared.left.LeftSide.{LeftSide}
 use Rattle.lines.specs.declared.left.ReadLeft.{ReadLeft}
@@ -45,12 +45,12 @@ LeftNames zero l n = ⊥
 LeftNames (suc zero) l n = name_at l ≡ ReadName.Found n
 LeftNames (suc (suc c)) l n = NameThen (LeftNames (suc c)) l n
 
-pub names-some : (c : ℕ) (l : List ℕ) (n : ℕ) → LeftNames c l n → 1 ≤ c
-names-some zero l n h = absurd h
-names-some (suc c) l n h = omega arith
+pub names_some : (c : ℕ) (l : List ℕ) (n : ℕ) → LeftNames c l n → 1 ≤ c
+names_some zero l n h = absurd h
+names_some (suc c) l n h = omega arith
 
-pub left-names : (l : List ℕ) (x : LeftSide) → left_at l ≡ ReadLeft.Found x → LeftNames x.names l x.len
-left-names = left_by (λ l c n. LeftNames c l n) (λ l n e. e) more
+pub left_names : (l : List ℕ) (x : LeftSide) → left_at l ≡ ReadLeft.Found x → LeftNames x.names l x.len
+left_names = left_by (λ l c n. LeftNames c l n) (λ l n e. e) more
   where
     more : (l : List ℕ) (n c k : ℕ) → name_at l ≡ ReadName.Found n → byte_at (drop n l) ≡ plus → LeftNames c (drop (n + 1) l) k
         → LeftNames (1 + c) l (n + 1 + k)
@@ -60,7 +60,7 @@ left-names = left_by (λ l c n. LeftNames c l n) (λ l n e. e) more
 -- What stands behind the colon: a class, or a name.
 pub record ClassTail (l : List ℕ) (v : Value) : Type 0 where
   pub width : ℕ
-  pub class : class_at (drop (v.left + 1) l) ≡ classFound v.class width
+  pub class : class_at (drop (v.left + 1) l) ≡ class_found v.class width
   pub size : v.len ≡ v.left + 1 + width
   pub right : v.right ≡ 0
 
@@ -82,11 +82,11 @@ abbrev ValueSays : (List ℕ → Value → Type 0) → List ℕ → ReadValue �
 ValueSays P l ReadValue.Bad = Unit
 ValueSays P l (ReadValue.Found v) = P l v
 
-class-says : (kind names n : ℕ) (l : List ℕ) → kind < 2 → (kind ≡ 0 → names ≡ 1) → LeftNames names l n → ValueSays (RuleValue kind) l (withClass names n l)
-unfolding withClass
-class-says kind names n l h s left = signed (eqb (byte_at (drop n l)) colon) refl
+class_says : (kind names n : ℕ) (l : List ℕ) → kind < 2 → (kind ≡ 0 → names ≡ 1) → LeftNames names l n → ValueSays (RuleValue kind) l (with_class names n l)
+unfolding with_class
+class_says kind names n l h s left = signed (eqb (byte_at (drop n l)) colon) refl
   where
-    behind : byte_at (drop n l) ≡ colon → (x : ReadClass) → class_at (drop (n + 1) l) ≡ x → ValueSays (RuleValue kind) l (classBehind names n x)
+    behind : byte_at (drop n l) ≡ colon → (x : ReadClass) → class_at (drop (n + 1) l) ≡ x → ValueSays (RuleValue kind) l (class_behind names n x)
     behind d ReadClass.Bad e = tt
     behind d (ReadClass.Found x) e = record {
       known = omega arith;
@@ -97,15 +97,15 @@ class-says kind names n l h s left = signed (eqb (byte_at (drop n l)) colon) ref
       named = λ z. absurd (omega arith);
     }
 
-    signed : (b : Bool) → eqb (byte_at (drop n l)) colon ≡ b → ValueSays (RuleValue kind) l (cond b (classBehind names n (class_at (drop (n + 1) l))) ReadValue.Bad)
+    signed : (b : Bool) → eqb (byte_at (drop n l)) colon ≡ b → ValueSays (RuleValue kind) l (cond b (class_behind names n (class_at (drop (n + 1) l))) ReadValue.Bad)
     signed true d = behind (eqb-true (byte_at (drop n l)) colon d) (class_at (drop (n + 1) l)) refl
     signed false d = tt
 
-right-says : (names n : ℕ) (l : List ℕ) → LeftNames names l n → ValueSays (RuleValue 2) l (withRight names n l)
-unfolding withRight
-right-says names n l left = signed (eqb (byte_at (drop n l)) colon) refl
+right_says : (names n : ℕ) (l : List ℕ) → LeftNames names l n → ValueSays (RuleValue 2) l (with_right names n l)
+unfolding with_right
+right_says names n l left = signed (eqb (byte_at (drop n l)) colon) refl
   where
-    behind : byte_at (drop n l) ≡ colon → (x : ReadName) → name_at (drop (n + 1) l) ≡ x → ValueSays (RuleValue 2) l (rightBehind names n x)
+    behind : byte_at (drop n l) ≡ colon → (x : ReadName) → name_at (drop (n + 1) l) ≡ x → ValueSays (RuleValue 2) l (right_behind names n x)
     behind d ReadName.Bad e = tt
     behind d (ReadName.Found k) e = record {
       known = omega arith;
@@ -116,31 +116,31 @@ right-says names n l left = signed (eqb (byte_at (drop n l)) colon) refl
       named = λ z. record { name = e; size = refl; class = refl };
     }
 
-    signed : (b : Bool) → eqb (byte_at (drop n l)) colon ≡ b → ValueSays (RuleValue 2) l (cond b (rightBehind names n (name_at (drop (n + 1) l))) ReadValue.Bad)
+    signed : (b : Bool) → eqb (byte_at (drop n l)) colon ≡ b → ValueSays (RuleValue 2) l (cond b (right_behind names n (name_at (drop (n + 1) l))) ReadValue.Bad)
     signed true d = behind (eqb-true (byte_at (drop n l)) colon d) (name_at (drop (n + 1) l)) refl
     signed false d = tt
 
-cap-says : (l : List ℕ) (x : ReadName) → name_at l ≡ x → ValueSays (RuleValue 0) l (cap_of l x)
-cap-says l ReadName.Bad e = tt
-cap-says l (ReadName.Found n) e = class-says 0 1 n l (omega arith) (λ z. refl) e
+cap_says : (l : List ℕ) (x : ReadName) → name_at l ≡ x → ValueSays (RuleValue 0) l (cap_of l x)
+cap_says l ReadName.Bad e = tt
+cap_says l (ReadName.Found n) e = class_says 0 1 n l (omega arith) (λ z. refl) e
 
-floor-says : (l : List ℕ) (x : ReadLeft) → left_at l ≡ x → ValueSays (RuleValue 1) l (floorOf l x)
-floor-says l ReadLeft.Bad e = tt
-floor-says l (ReadLeft.Found x) e = class-says 1 x.names x.len l (omega arith) (λ z. absurd (omega arith)) (left-names l x e)
+floor_says : (l : List ℕ) (x : ReadLeft) → left_at l ≡ x → ValueSays (RuleValue 1) l (floor_of l x)
+floor_says l ReadLeft.Bad e = tt
+floor_says l (ReadLeft.Found x) e = class_says 1 x.names x.len l (omega arith) (λ z. absurd (omega arith)) (left_names l x e)
 
-follow-says : (l : List ℕ) (x : ReadLeft) → left_at l ≡ x → ValueSays (RuleValue 2) l (followOf l x)
-follow-says l ReadLeft.Bad e = tt
-follow-says l (ReadLeft.Found x) e = right-says x.names x.len l (left-names l x e)
+follow_says : (l : List ℕ) (x : ReadLeft) → left_at l ≡ x → ValueSays (RuleValue 2) l (follow_of l x)
+follow_says l ReadLeft.Bad e = tt
+follow_says l (ReadLeft.Found x) e = right_says x.names x.len l (left_names l x e)
 
 module _ (l : List ℕ) (v : Value) where
-  pub cap-value : cap_at l ≡ ReadValue.Found v → RuleValue 0 l v
-  cap-value e = subst (ValueSays (RuleValue 0) l) e (cap-says l (name_at l) refl)
+  pub cap_value : cap_at l ≡ ReadValue.Found v → RuleValue 0 l v
+  cap_value e = subst (ValueSays (RuleValue 0) l) e (cap_says l (name_at l) refl)
 
-  pub floor-value : floorAt l ≡ ReadValue.Found v → RuleValue 1 l v
-  floor-value e = subst (ValueSays (RuleValue 1) l) e (floor-says l (left_at l) refl)
+  pub floor_value : floor_at l ≡ ReadValue.Found v → RuleValue 1 l v
+  floor_value e = subst (ValueSays (RuleValue 1) l) e (floor_says l (left_at l) refl)
 
-  pub follow-value : followAt l ≡ ReadValue.Found v → RuleValue 2 l v
-  follow-value e = subst (ValueSays (RuleValue 2) l) e (follow-says l (left_at l) refl)
+  pub follow_value : follow_at l ≡ ReadValue.Found v → RuleValue 2 l v
+  follow_value e = subst (ValueSays (RuleValue 2) l) e (follow_says l (left_at l) refl)
 
 -- The values of form, of an item and of the end.
 pub record FormValue (l : List ℕ) (v : Value) : Type 0 where
@@ -152,33 +152,33 @@ pub record ItemValue (l : List ℕ) (v : Value) : Type 0 where
   pub size : v.len ≡ v.left
 
 pub record EndValue (l : List ℕ) (v : Value) : Type 0 where
-  pub count : countAt l ≡ countFound v.count v.len
+  pub count : count_at l ≡ count_found v.count v.len
 
-form-says : (l : List ℕ) → ValueSays FormValue l (formAt l)
-unfolding formAt
-form-says l = says (eqb (byte_at l) digit1) refl
+form_says : (l : List ℕ) → ValueSays FormValue l (form_at l)
+unfolding form_at
+form_says l = says (eqb (byte_at l) digit1) refl
   where
     says : (b : Bool) → eqb (byte_at l) digit1 ≡ b → ValueSays FormValue l (cond b (unnamed 0 1) ReadValue.Bad)
     says true e = record { one = eqb-true (byte_at l) digit1 e; size = refl }
     says false e = tt
 
-item-says : (l : List ℕ) (x : ReadName) → name_at l ≡ x → ValueSays ItemValue l (item_of x)
-item-says l ReadName.Bad e = tt
-item-says l (ReadName.Found n) e = record { name = e; size = refl }
+item_says : (l : List ℕ) (x : ReadName) → name_at l ≡ x → ValueSays ItemValue l (item_of x)
+item_says l ReadName.Bad e = tt
+item_says l (ReadName.Found n) e = record { name = e; size = refl }
 
-end-says : (l : List ℕ) (x : ReadCount) → countAt l ≡ x → ValueSays EndValue l (end_of x)
-end-says l ReadCount.Bad e = tt
-end-says l (ReadCount.Found x) e = record { count = e }
+end_says : (l : List ℕ) (x : ReadCount) → count_at l ≡ x → ValueSays EndValue l (end_of x)
+end_says l ReadCount.Bad e = tt
+end_says l (ReadCount.Found x) e = record { count = e }
 
 module _ (l : List ℕ) (v : Value) where
-  pub form-value : formAt l ≡ ReadValue.Found v → FormValue l v
-  form-value e = subst (ValueSays FormValue l) e (form-says l)
+  pub form_value : form_at l ≡ ReadValue.Found v → FormValue l v
+  form_value e = subst (ValueSays FormValue l) e (form_says l)
 
-  pub item-value : item_at l ≡ ReadValue.Found v → ItemValue l v
-  item-value e = subst (ValueSays ItemValue l) e (item-says l (name_at l) refl)
+  pub item_value : item_at l ≡ ReadValue.Found v → ItemValue l v
+  item_value e = subst (ValueSays ItemValue l) e (item_says l (name_at l) refl)
 
-  pub end-value : end_at l ≡ ReadValue.Found v → EndValue l v
-  end-value e = subst (ValueSays EndValue l) e (end-says l (countAt l) refl)
+  pub end_value : end_at l ≡ ReadValue.Found v → EndValue l v
+  end_value e = subst (ValueSays EndValue l) e (end_says l (count_at l) refl)
 
 -- A line: its key, its value, and LF behind them.
 pub record LineParts (l : List ℕ) (x : Line) : Type 0 where
@@ -190,18 +190,18 @@ abbrev PartsSay : List ℕ → ReadLine → Type 0
 PartsSay l ReadLine.Bad = Unit
 PartsSay l (ReadLine.Found x) = LineParts l x
 
-ended-says : (l : List ℕ) (k : Key) (n : ℕ) (y : ReadValue) → key_at l ≡ ReadKey.Found k n → value_at k (drop n l) ≡ y → PartsSay l (ended l k n y)
-ended-says l k n ReadValue.Bad e f = tt
-ended-says l k n (ReadValue.Found v) e f = says (eqb (byte_at (drop (n + v.len) l)) lf) refl
+ended_says : (l : List ℕ) (k : Key) (n : ℕ) (y : ReadValue) → key_at l ≡ ReadKey.Found k n → value_at k (drop n l) ≡ y → PartsSay l (ended l k n y)
+ended_says l k n ReadValue.Bad e f = tt
+ended_says l k n (ReadValue.Found v) e f = says (eqb (byte_at (drop (n + v.len) l)) lf) refl
   where
     says : (b : Bool) → eqb (byte_at (drop (n + v.len) l)) lf ≡ b
         → PartsSay l (cond b (ReadLine.Found (record { key = k; from = n; value = v })) ReadLine.Bad)
     says true d = record { key = e; value = f; last = eqb-true (byte_at (drop (n + v.len) l)) lf d }
     says false d = tt
 
-parts-say : (l : List ℕ) (y : ReadKey) → key_at l ≡ y → PartsSay l (line_of l y)
-parts-say l ReadKey.Bad e = tt
-parts-say l (ReadKey.Found k n) e = ended-says l k n (value_at k (drop n l)) e refl
+parts_say : (l : List ℕ) (y : ReadKey) → key_at l ≡ y → PartsSay l (line_of l y)
+parts_say l ReadKey.Bad e = tt
+parts_say l (ReadKey.Found k n) e = ended_says l k n (value_at k (drop n l)) e refl
 
-pub line-parts : (l : List ℕ) (x : Line) → line_at l ≡ ReadLine.Found x → LineParts l x
-line-parts l x e = subst (PartsSay l) e (parts-say l (key_at l) refl)
+pub line_parts : (l : List ℕ) (x : Line) → line_at l ≡ ReadLine.Found x → LineParts l x
+line_parts l x e = subst (PartsSay l) e (parts_say l (key_at l) refl)

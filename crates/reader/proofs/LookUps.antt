@@ -16,28 +16,28 @@ use mir.Val.{Fits}
 use types.Run.{OneOf}
 use denote.Enum as enum
 use borrow.Author.Tests.{eq-eqb, ne_eqb, lt-ltb, ltb-true}
-use Rattle.laws.specs.Every.{everyBelow}
-use Rattle.laws.proofs.Bools.{true-not-false}
-use Rattle.laws.proofs.Every.{every-all, every-at}
+use Rattle.laws.specs.Every.{every_below}
+use Rattle.laws.proofs.Bools.{true_not_false}
+use Rattle.laws.proofs.Every.{every_all, every_at}
 use Rattle.laws.specs.Over.{over}
-use Rattle.laws.proofs.Over.{over_none, set-over, over-over}
-use Rattle.refusals.specs.Sizes.{mostText}
-use Rattle.scans.specs.Bytes.{nameByte, runLen}
-use Rattle.scans.proofs.Runs.{run-le}
-use Rattle.items.specs.Lookup.{saidFound, findIn, FindSays}
+use Rattle.laws.proofs.Over.{over_none, set_over, over_over}
+use Rattle.refusals.specs.Sizes.{most_text}
+use Rattle.scans.specs.Bytes.{name_byte, run_len}
+use Rattle.scans.proofs.Runs.{run_le}
+use Rattle.items.specs.Lookup.{said_found, find_in, FindSays}
 use Rattle.items.specs.declared.Found.{Found}
 use Rattle.items.specs.contracts.Found as found
-use Rattle.items.proofs.Lookup.{find-told}
-use Rattle.reader.specs.Names.{isItem, itemNumber, everyItem, numbersOf, rising}
-use Rattle.reader.specs.Lines.{rightItemAt}
+use Rattle.items.proofs.Lookup.{find_told}
+use Rattle.reader.specs.Names.{is_item, item_number, every_item, numbers_of, rising}
+use Rattle.reader.specs.Lines.{right_item_at}
 use Rattle.reader.specs.InnerAdding.{LookReady, LooksUp}
 
 -- What is not At is no item.
-pub not-item : (x : Found) → OneOf (1 ∷ 2 ∷ []) (enum.Declared.tag_of found.the_type x) → isItem x ≡ false
-not-item (Found.At i) (inl e) = absurd (omega arith)
-not-item (Found.At i) (inr e) = absurd (omega arith)
-not-item Found.Absent h = refl
-not-item (Found.Refused r) h = refl
+pub not_item : (x : Found) → OneOf (1 ∷ 2 ∷ []) (enum.Declared.tag_of found.the_type x) → is_item x ≡ false
+not_item (Found.At i) (inl e) = absurd (omega arith)
+not_item (Found.At i) (inr e) = absurd (omega arith)
+not_item Found.Absent h = refl
+not_item (Found.Refused r) h = refl
 
 -- The part of a text that is lent has the bytes at a place, as many as there are.
 pub part_at : (s : List ℕ) (at len : ℕ) {from size : ℕ} → from ≡ min at (length s) → size ≡ min len (length s - from)
@@ -57,117 +57,117 @@ part_at s at len {from} {size} e f = rw (same, begin (dec_le at (length s))) (cu
         take_all size (drop at s) (omega (arith, e, f, length-drop at s)) ∙ sym (take_all len (drop at s) (omega arith))
 
 pub found_at : (s : List ℕ) (at len : ℕ) (t : List ℕ) (n : ℕ) {from size : ℕ} → from ≡ min at (length s) → size ≡ min len (length s - from)
-    → {r : Found} → FindSays t n (take (from + size - from) (drop from s)) (saidFound r) → r ≡ findIn t n (take len (drop at s))
-found_at s at len t n e f g = find-told g ∙ ap (findIn t n) (part_at s at len e f)
+    → {r : Found} → FindSays t n (take (from + size - from) (drop from s)) (said_found r) → r ≡ find_in t n (take len (drop at s))
+found_at s at len t n e f g = find_told g ∙ ap (find_in t n) (part_at s at len e f)
 
 -- The right name.
-pub right-none : (t : List ℕ) (n len : ℕ) (l : List ℕ) → len ≡ 0 → Found.At 0 ≡ rightItemAt t n len l
-unfolding rightItemAt
-right-none t n len l e = rw (eq-eqb len 0 e)
+pub right_none : (t : List ℕ) (n len : ℕ) (l : List ℕ) → len ≡ 0 → Found.At 0 ≡ right_item_at t n len l
+unfolding right_item_at
+right_none t n len l e = rw (eq-eqb len 0 e)
 
-pub right-some : (t : List ℕ) (n len : ℕ) (l : List ℕ) → (len ≡ 0 → ⊥) → {r : Found} → r ≡ findIn t n (take len l) → r ≡ rightItemAt t n len l
-unfolding rightItemAt
-right-some t n len l e f = rw (ne_eqb len 0 e) f
+pub right_some : (t : List ℕ) (n len : ℕ) (l : List ℕ) → (len ≡ 0 → ⊥) → {r : Found} → r ≡ find_in t n (take len l) → r ≡ right_item_at t n len l
+unfolding right_item_at
+right_some t n len l e f = rw (ne_eqb len 0 e) f
 
 -- Left places that rise up to place k.
 pub record Rising (left : List ℕ) (k : ℕ) : Type 0 where
   pub least : 1 ≤ k
   pub below : (j : ℕ) → suc j < k → get_or left j 0 < get_or left (suc j) 0
 
-pub rising-one : {left : List ℕ} → Rising left 1
-rising-one = record { least = omega arith; below = λ j h. absurd (omega arith) }
+pub rising_one : {left : List ℕ} → Rising left 1
+rising_one = record { least = omega arith; below = λ j h. absurd (omega arith) }
 
-pub rising-more : {left : List ℕ} {k : ℕ} → Rising left k → get_or left (k - 1) 0 < get_or left k 0 → Rising left (k + 1)
-rising-more {left} {k} w h = record { least = omega arith; below = λ j i. go j (dec_le k (suc j)) i }
+pub rising_more : {left : List ℕ} {k : ℕ} → Rising left k → get_or left (k - 1) 0 < get_or left k 0 → Rising left (k + 1)
+rising_more {left} {k} w h = record { least = omega arith; below = λ j i. go j (dec_le k (suc j)) i }
   where
     go : (j : ℕ) → Dec (k ≤ suc j) → suc j < k + 1 → get_or left j 0 < get_or left (suc j) 0
     go j (yes g) i = let a : k ≡ suc j = omega arith in let b : k - 1 ≡ j = omega arith in rw (b, a) at h
     go j (no g) i = w.below j (omega arith)
 
-pub rising-not : {left : List ℕ} {k : ℕ} → Rising left k → (count : ℕ) → k < count → get_or left k 0 ≤ get_or left (k - 1) 0 → false ≡ rising count left
+pub rising_not : {left : List ℕ} {k : ℕ} → Rising left k → (count : ℕ) → k < count → get_or left k 0 ≤ get_or left (k - 1) 0 → false ≡ rising count left
 unfolding rising
-rising-not {left} {k} w count g h = refuse (everyBelow (count - 1) (λ j. ltb (get_or left j 0) (get_or left (suc j) 0))) refl
+rising_not {left} {k} w count g h = refuse (every_below (count - 1) (λ j. ltb (get_or left j 0) (get_or left (suc j) 0))) refl
   where
     here : suc (k - 1) ≡ k
     here = omega (arith, w.least)
 
-    refuse : (b : Bool) → everyBelow (count - 1) (λ j. ltb (get_or left j 0) (get_or left (suc j) 0)) ≡ b → false ≡ b
+    refuse : (b : Bool) → every_below (count - 1) (λ j. ltb (get_or left j 0) (get_or left (suc j) 0)) ≡ b → false ≡ b
     refuse false e = refl
     refuse true e =
-        let up : get_or left (k - 1) 0 < get_or left (suc (k - 1)) 0 = ltb-true _ _ (every-at (count - 1) _ e (k - 1) (omega (arith, w.least))) in
+        let up : get_or left (k - 1) 0 < get_or left (suc (k - 1)) 0 = ltb-true _ _ (every_at (count - 1) _ e (k - 1) (omega (arith, w.least))) in
         absurd (omega (arith, rw here at up))
 
-pub rising-all : {left : List ℕ} {k : ℕ} → Rising left k → (count : ℕ) → count ≤ k → true ≡ rising count left
+pub rising_all : {left : List ℕ} {k : ℕ} → Rising left k → (count : ℕ) → count ≤ k → true ≡ rising count left
 unfolding rising
-rising-all {left} {k} w count h = sym (every-all (count - 1) _ (λ j i. lt-ltb _ _ (w.below j (omega arith))))
+rising_all {left} {k} w count h = sym (every_all (count - 1) _ (λ j i. lt-ltb _ _ (w.below j (omega arith))))
 
 -- What is put from a place on, with its first number put already.
-over-next : (d : List ℕ) (k b : ℕ) (x : List ℕ) → k < length d → over (set d k b) (k + 1) x ≡ over d k (b ∷ x)
-over-next d k b x h = rw (set-over d k b h) (over-over d k (b ∷ []) (omega arith) x)
+over_next : (d : List ℕ) (k b : ℕ) (x : List ℕ) → k < length d → over (set d k b) (k + 1) x ≡ over d k (b ∷ x)
+over_next d k b x h = rw (set_over d k b h) (over_over d k (b ∷ []) (omega arith) x)
 
 -- Left names looked up one after the other: k of them are, and the next one stands at `place`.
 pub record Looking (text : List ℕ) (at count : ℕ) (t : List ℕ) (n : ℕ) (left₀ left : List ℕ) (place k : ℕ) : Type 0 where
   pub within : k ≤ count
-  pub near : place ≤ mostText + k
+  pub near : place ≤ most_text + k
   pub sized : length left ≡ length left₀
-  pub told : everyItem t n (count - k) (drop place text) ≡ everyItem t n count (drop at text)
-  pub items : over left k (numbersOf t n (count - k) (drop place text)) ≡ over left₀ 0 (numbersOf t n count (drop at text))
+  pub told : every_item t n (count - k) (drop place text) ≡ every_item t n count (drop at text)
+  pub items : over left k (numbers_of t n (count - k) (drop place text)) ≡ over left₀ 0 (numbers_of t n count (drop at text))
 
-pub looking-none : {text : List ℕ} {at count : ℕ} {t : List ℕ} {n : ℕ} {left : List ℕ} → LookReady text at count left
+pub looking_none : {text : List ℕ} {at count : ℕ} {t : List ℕ} {n : ℕ} {left : List ℕ} → LookReady text at count left
     → Looking text at count t n left left at 0
-looking-none {count = count} r =
+looking_none {count = count} r =
     let all : count - 0 ≡ count = omega arith in
     record { within = omega arith; near = omega (arith, r.place); sized = refl; told = rw all; items = rw all }
 
-pub looking-room : {text : List ℕ} {at count : ℕ} {t : List ℕ} {n : ℕ} {left₀ left : List ℕ} {place k : ℕ}
+pub looking_room : {text : List ℕ} {at count : ℕ} {t : List ℕ} {n : ℕ} {left₀ left : List ℕ} {place k : ℕ}
     → Looking text at count t n left₀ left place k → LookReady text at count left₀ → k < count → k < length left
-looking-room w r h = omega (arith, w.sized, r.few, r.room)
+looking_room w r h = omega (arith, w.sized, r.few, r.room)
 
 module _ {text : List ℕ} {at count : ℕ} {t : List ℕ} {n : ℕ} {left₀ left : List ℕ} {place k : ℕ}
     (w : Looking text at count t n left₀ left place k) (r : LookReady text at count left₀) (h : k < count) {len : ℕ}
-    (e : len ≡ runLen nameByte (drop place text)) where
+    (e : len ≡ run_len name_byte (drop place text)) where
   next : count - k ≡ suc (count - (k + 1))
   next = omega arith
 
-  pub looking-fits : Fits w64 (len + 1)
-  looking-fits = record { fits = omega (arith, e, run-le nameByte (drop place text), length-drop place text, r.text) }
+  pub looking_fits : Fits w64 (len + 1)
+  looking_fits = record { fits = omega (arith, e, run_le name_byte (drop place text), length-drop place text, r.text) }
 
-  pub looking-next : Fits w64 (place + (len + 1))
-  looking-next = record { fits = omega (arith, e, run-le nameByte (drop place text), length-drop place text, r.text, w.near, r.few) }
+  pub looking_next : Fits w64 (place + (len + 1))
+  looking_next = record { fits = omega (arith, e, run_le name_byte (drop place text), length-drop place text, r.text, w.near, r.few) }
 
-  module _ {x : Found} (f : x ≡ findIn t n (take len (drop place text))) where
-    first : findIn t n (take (runLen nameByte (drop place text)) (drop place text)) ≡ x
+  module _ {x : Found} (f : x ≡ find_in t n (take len (drop place text))) where
+    first : find_in t n (take (run_len name_byte (drop place text)) (drop place text)) ≡ x
     first = rw (← e) (sym f)
 
-    rest : drop (runLen nameByte (drop place text) + 1) (drop place text) ≡ drop (place + (len + 1)) text
+    rest : drop (run_len name_byte (drop place text) + 1) (drop place text) ≡ drop (place + (len + 1)) text
     rest = rw (← e) (drop-drop (len + 1) place text)
 
-    step : everyItem t n (count - k) (drop place text) ≡ (isItem x && everyItem t n (count - (k + 1)) (drop (place + (len + 1)) text))
-    unfolding everyItem
+    step : every_item t n (count - k) (drop place text) ≡ (is_item x && every_item t n (count - (k + 1)) (drop (place + (len + 1)) text))
+    unfolding every_item
     step = rw (next, first, rest)
 
-    numbers : numbersOf t n (count - k) (drop place text) ≡ itemNumber x ∷ numbersOf t n (count - (k + 1)) (drop (place + (len + 1)) text)
-    unfolding numbersOf
+    numbers : numbers_of t n (count - k) (drop place text) ≡ item_number x ∷ numbers_of t n (count - (k + 1)) (drop (place + (len + 1)) text)
+    unfolding numbers_of
     numbers = rw (next, first, rest)
 
-    pub looking-absent : OneOf (1 ∷ 2 ∷ []) (enum.Declared.tag_of found.the_type x) → LooksUp t n count (drop at text) left₀ false left
-    looking-absent g = record {
-      told = sym (sym w.told ∙ step ∙ rw (not-item x g));
-      items = λ z. absurd (true-not-false z refl);
+    pub looking_absent : OneOf (1 ∷ 2 ∷ []) (enum.Declared.tag_of found.the_type x) → LooksUp t n count (drop at text) left₀ false left
+    looking_absent g = record {
+      told = sym (sym w.told ∙ step ∙ rw (not_item x g));
+      items = λ z. absurd (true_not_false z refl);
     }
 
-    pub looking-more : {i : ℕ} → x ≡ Found.At i → Looking text at count t n left₀ (set left k i) (place + (len + 1)) (k + 1)
-    looking-more {i} g = record {
+    pub looking_more : {i : ℕ} → x ≡ Found.At i → Looking text at count t n left₀ (set left k i) (place + (len + 1)) (k + 1)
+    looking_more {i} g = record {
       within = omega arith;
-      near = omega (arith, e, run-le nameByte (drop place text), length-drop place text, r.text, w.near);
+      near = omega (arith, e, run_le name_byte (drop place text), length-drop place text, r.text, w.near);
       sized = rw length-set w.sized;
       told = sym (step ∙ rw g) ∙ w.told;
-      items = over-next left k i _ (looking-room w r h) ∙ ap (over left k) (sym (rw g at numbers)) ∙ w.items;
+      items = over_next left k i _ (looking_room w r h) ∙ ap (over left k) (sym (rw g at numbers)) ∙ w.items;
     }
 
-pub looking-all : {text : List ℕ} {at count : ℕ} {t : List ℕ} {n : ℕ} {left₀ left : List ℕ} {place k : ℕ}
+pub looking_all : {text : List ℕ} {at count : ℕ} {t : List ℕ} {n : ℕ} {left₀ left : List ℕ} {place k : ℕ}
     → Looking text at count t n left₀ left place k → count ≤ k → LooksUp t n count (drop at text) left₀ true left
-unfolding everyItem numbersOf
-looking-all {text} {at} {count} {t} {n} {left₀} {left} {place} {k} w h =
+unfolding every_item numbers_of
+looking_all {text} {at} {count} {t} {n} {left₀} {left} {place} {k} w h =
     let none : count - k ≡ 0 = omega arith in
     record { told = rw none at w.told; items = λ z. sym (over_none left k) ∙ rw none at w.items }

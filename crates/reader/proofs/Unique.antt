@@ -5,23 +5,23 @@ use mathlib.Core.List.{List}
 use Prim.Native.Nat.{ℕ}
 use lib.ListN.{length, get_or}
 use Rattle.refusals.specs.Said.{Said, success, refused}
-use Rattle.refusals.proofs.Said.{said-injective, refusalOf, refusal-back}
+use Rattle.refusals.proofs.Said.{said_injective, refusal_of, refusal_back}
 use Rattle.rules.specs.declared.Head.{Head}
 use Rattle.reader.specs.declared.ReadBook.{ReadBook}
-use Rattle.reader.specs.Reading.{saidRead, readAnswer, ReadSays}
+use Rattle.reader.specs.Reading.{said_read, read_answer, ReadSays}
 
 -- An answer is known by what it says.
-abbrev bookOf : Said → ReadBook
-bookOf (success c l) = ReadBook.Book (record { items = get_or l 0 0; rules = get_or l 1 0 })
-bookOf (refused n p) = ReadBook.Refused (refusalOf n p)
+abbrev book_of : Said → ReadBook
+book_of (success c l) = ReadBook.Book (record { items = get_or l 0 0; rules = get_or l 1 0 })
+book_of (refused n p) = ReadBook.Refused (refusal_of n p)
 
-book-back : (x : ReadBook) → bookOf (saidRead x) ≡ x
-book-back (ReadBook.Book h) = refl
-book-back (ReadBook.Refused r) = ap ReadBook.Refused (refusal-back r)
+book_back : (x : ReadBook) → book_of (said_read x) ≡ x
+book_back (ReadBook.Book h) = refl
+book_back (ReadBook.Refused r) = ap ReadBook.Refused (refusal_back r)
 
-pub read_told : {l items rules : List ℕ} {r : ReadBook} {items' rules' : List ℕ} → ReadSays l items rules (saidRead r) items' rules'
-    → r ≡ readAnswer l (length items) (length rules)
-read_told s = said-injective saidRead bookOf book-back s.answer
+pub read_told : {l items rules : List ℕ} {r : ReadBook} {items' rules' : List ℕ} → ReadSays l items rules (said_read r) items' rules'
+    → r ≡ read_answer l (length items) (length rules)
+read_told s = said_injective said_read book_of book_back s.answer
 
 -- A text is read as one book.
 pub same_head : {x : ReadBook} {h k : Head} → x ≡ ReadBook.Book h → x ≡ ReadBook.Book k → k ≡ h
@@ -30,13 +30,13 @@ same_head e f = let same = sym f ∙ e in cc
 -- Two results of reading are equal.
 pub record Same (a b : ReadBook) (items rules items' rules' : List ℕ) : Type 0 where
   pub answer : a ≡ b
-  pub items-same : items ≡ items'
-  pub rules-same : rules ≡ rules'
+  pub items_same : items ≡ items'
+  pub rules_same : rules ≡ rules'
 
-pub read-unique : {l items rules : List ℕ} {a b : ReadBook} {items₁ rules₁ items₂ rules₂ : List ℕ} → ReadSays l items rules (saidRead a) items₁ rules₁
-    → ReadSays l items rules (saidRead b) items₂ rules₂ → Same a b items₁ rules₁ items₂ rules₂
-read-unique p q = record {
+pub read_unique : {l items rules : List ℕ} {a b : ReadBook} {items₁ rules₁ items₂ rules₂ : List ℕ} → ReadSays l items rules (said_read a) items₁ rules₁
+    → ReadSays l items rules (said_read b) items₂ rules₂ → Same a b items₁ rules₁ items₂ rules₂
+read_unique p q = record {
   answer = read_told p ∙ sym (read_told q);
-  items-same = p.items-after ∙ sym q.items-after;
-  rules-same = p.rules-after ∙ sym q.rules-after;
+  items_same = p.items_are ∙ sym q.items_are;
+  rules_same = p.rules_are ∙ sym q.rules_are;
 }

@@ -3,8 +3,8 @@ mod line;
 mod names;
 
 ghost use Rattle.std.specs.Prelude.{◌≡◌};
-ghost use Rattle.reader.specs.Lines.{refusedAt};
-ghost use Rattle.reader.specs.Reading.{saidRead, ReadSays};
+ghost use Rattle.reader.specs.Lines.{refused_at};
+ghost use Rattle.reader.specs.Reading.{said_read, ReadSays};
 ghost use Rattle.reader.specs.InnerLines.{StartsEmpty, Gives, Holds, CopiedOut};
 
 use line::{Counts, Stepped, step};
@@ -13,7 +13,7 @@ use refusals::{Fault, MOST_TEXT, Refusal};
 use rules::{Head, put_words};
 
 // What reading answers: the head of the book; or a refusal, with its line, or 0.
-#[derive(Drop)]
+#[derive(Clone, Copy)]
 pub enum ReadBook {
     Book(Head),
     Refused(Refusal),
@@ -22,7 +22,7 @@ pub enum ReadBook {
 // Refused with TooLong where the text has over 32,768 bytes; with the fault of the first faulty line, and that line; with NoRoom where a lent
 // table is shorter than what was read. Else the tables are written from the front, unused room zero.
 pub fn read(text: &[u8], items: &mut [u8], rules: &mut [u64]) -> ReadBook
-    ensures { ReadSays text.now items.old rules.old (saidRead result) items.new rules.new }
+    ensures { ReadSays text.now items.old rules.old (said_read result) items.new rules.new }
 {
     if MOST_TEXT < text.len() {
         return refused(Fault::TooLong, 0);
@@ -62,7 +62,7 @@ fn copy_out(
 
 // A fault at a place.
 pub(crate) fn refused(fault: Fault, place: usize) -> ReadBook
-    ensures { result ≡ refusedAt fault place }
+    ensures { result ≡ refused_at fault place }
 {
     ReadBook::Refused(Refusal {
         fault: fault,

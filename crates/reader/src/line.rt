@@ -1,9 +1,9 @@
 // One line of a rulebook, read into the tables.
 ghost use Rattle.std.specs.Prelude.{◌≡◌, ◌+◌, ◌≤◌, drop};
-ghost use Rattle.refusals.specs.Sizes.{mostText};
-ghost use Rattle.lines.specs.Lines.{lineLen};
-ghost use Rattle.reader.specs.Lines.{ruleKind, step};
-ghost use Rattle.reader.specs.InnerLines.{state_of, turn_of, stopsAt, wentOn, Ready, Counting, LineReady, ItemReady, RuleReady, ItemStepped, RuleStepped, EndStepped};
+ghost use Rattle.refusals.specs.Sizes.{most_text};
+ghost use Rattle.lines.specs.Lines.{line_len};
+ghost use Rattle.reader.specs.Lines.{rule_kind, step};
+ghost use Rattle.reader.specs.InnerLines.{state_of, turn_of, stops_at, went_on, Ready, Counting, LineReady, ItemReady, RuleReady, ItemStepped, RuleStepped, EndStepped};
 ghost use Rattle.reader.specs.InnerAdding.{NameReady, ItemAdded, NamesReady, RuleAdded};
 
 use super::names::{look_up, right_item, rises};
@@ -17,7 +17,7 @@ use refusals::{Fault, MOST_ITEMS, MOST_LEFT, MOST_RULES};
 use rules::{Head, Rule, put_rule};
 
 // How many lines have been read, which row of the key table is next, and how many items and rules there are.
-#[derive(Drop)]
+#[derive(Clone, Copy)]
 pub(crate) struct Counts {
     pub lines: usize,
     pub after: u64,
@@ -26,14 +26,14 @@ pub(crate) struct Counts {
 }
 
 // What a line gives: the counts after it and its length, or the answer.
-#[derive(Drop)]
+#[derive(Clone, Copy)]
 pub(crate) enum Stepped {
     On(Counts, usize),
     Stop(ReadBook),
 }
 
 // Whether an item or a rule was added to its table, or why not.
-#[derive(Drop)]
+#[derive(Clone, Copy)]
 pub(crate) enum Added {
     Yes,
     No(Fault),
@@ -70,8 +70,8 @@ pub(crate) fn step(
 
 // A fault at the line that is read.
 fn stopped(c: Counts, fault: Fault) -> Stepped
-    requires { c.lines ≤ mostText }
-    ensures { result ≡ stopsAt fault (c.lines + 1) }
+    requires { c.lines ≤ most_text }
+    ensures { result ≡ stops_at fault (c.lines + 1) }
 {
     Stepped::Stop(refused(fault, c.lines + 1))
 }
@@ -79,7 +79,7 @@ fn stopped(c: Counts, fault: Fault) -> Stepped
 // A line that was taken: the counts after it, with so many items and rules, and its length.
 fn went(c: Counts, line: Line, items: usize, rules: usize) -> Stepped
     requires { Counting c line }
-    ensures { result ≡ wentOn c line items rules }
+    ensures { result ≡ went_on c line items rules }
 {
     let key = line.key;
     let next = Counts {
@@ -93,8 +93,8 @@ fn went(c: Counts, line: Line, items: usize, rules: usize) -> Stepped
 
 // The length of a line, with its LF.
 fn line_len(line: Line) -> usize
-    requires { lineLen line ≤ mostText }
-    ensures { result ≡ lineLen line }
+    requires { line_len line ≤ most_text }
+    ensures { result ≡ line_len line }
 {
     line.from + line.value.len + 1
 }
@@ -159,7 +159,7 @@ fn rule_step(
 
 // A rule's kind by its key.
 fn kind_of(key: Key) -> u64
-    ensures { result ≡ ruleKind key }
+    ensures { result ≡ rule_kind key }
 {
     match key {
         Key::Form => 0,

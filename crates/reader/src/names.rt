@@ -1,8 +1,8 @@
 // The names of a rule, looked up in the item table.
 ghost use Rattle.std.specs.Prelude.{◌≡◌, ◌≤◌, min, length, take, drop};
-ghost use Rattle.items.specs.Lookup.{findIn};
+ghost use Rattle.items.specs.Lookup.{find_in};
 ghost use Rattle.reader.specs.Names.{rising};
-ghost use Rattle.reader.specs.Lines.{rightItemAt};
+ghost use Rattle.reader.specs.Lines.{right_item_at};
 ghost use Rattle.reader.specs.InnerAdding.{LookReady, LooksUp};
 
 use items::{Found, find};
@@ -10,7 +10,7 @@ use scans::{Kind, run};
 
 // The item whose name is the len bytes at a place, or as many of them as the text has.
 fn find_at(text: &[u8], at: usize, len: usize, names: &[u8], n: usize) -> Found
-    ensures { result ≡ findIn names.now n (take len (drop at text.now)) }
+    ensures { result ≡ find_in names.now n (take len (drop at text.now)) }
 {
     let from = at_most(text.len(), at);
     let size = at_most(text.len() - from, len);
@@ -51,7 +51,7 @@ pub(crate) fn look_up(
 
 // The item of the right name of len bytes at a place; a line without one has item 0 there.
 pub(crate) fn right_item(text: &[u8], at: usize, len: usize, names: &[u8], n: usize) -> Found
-    ensures { result ≡ rightItemAt names.now n len (drop at text.now) }
+    ensures { result ≡ right_item_at names.now n len (drop at text.now) }
 {
     if len == 0 {
         return Found::At(0);

@@ -11,13 +11,13 @@ use lib.Dec.{eqb}
 use lib.ListN.{length, take, drop, length-drop, length-append}
 use lib.Seq.{take-append-le, drop-append-le}
 use borrow.Author.Tests.{lt-leb, leb-false}
-use Rattle.records.specs.Fields.{plain_byte, longerBy, afterCr, behind}
+use Rattle.records.specs.Fields.{plain_byte, longer_by, after_cr, behind}
 use Rattle.scans.specs.Ascii.{comma, quote, cr, lf}
 use Rattle.records.specs.Fields.{Where, start, plain, quoted, closed, scan, field_at}
-use Rattle.records.specs.Rows.{Row, line, bare, halved, cut, broken, fieldBefore, rowFrom, row_of}
-use Rattle.records.specs.Rows.{whole, more, bad, mostBytes, fewBytes, judged, recordAt}
+use Rattle.records.specs.Rows.{Row, line, bare, halved, cut, broken, field_before, row_from, row_of}
+use Rattle.records.specs.Rows.{whole, more, bad, most_bytes, few_bytes, judged, record_at}
 use Rattle.records.specs.declared.Field.{Field}
-use Rattle.records.proofs.Within.{comma-within, line-within}
+use Rattle.records.proofs.Within.{comma_within, line_within}
 use Rattle.records.proofs.Whole.{RowLies, row_lies}
 
 -- A field has at least k bytes, if it ends in the text.
@@ -40,31 +40,31 @@ Goes k Field.Open g = Reaches (k + 1) g
 Goes k Field.Bad g = g ≡ Field.Bad
 
 -- Every field has at least no bytes.
-reaches-none : (f : Field) → Reaches 0 f
-reaches-none (Field.Comma n) = omega arith
-reaches-none (Field.Line n) = omega arith
-reaches-none (Field.End n) = omega arith
-reaches-none (Field.Cr n) = omega arith
-reaches-none Field.Open = tt
-reaches-none Field.Bad = tt
+reaches_none : (f : Field) → Reaches 0 f
+reaches_none (Field.Comma n) = omega arith
+reaches_none (Field.Line n) = omega arith
+reaches_none (Field.End n) = omega arith
+reaches_none (Field.Cr n) = omega arith
+reaches_none Field.Open = tt
+reaches_none Field.Bad = tt
 
 -- One byte longer.
-reaches-longer : (i k : ℕ) (f : Field) → i ≤ k + 1 → Reaches k f → Reaches i (longerBy 1 f)
-reaches-longer i k (Field.Comma n) e h = omega arith
-reaches-longer i k (Field.Line n) e h = omega arith
-reaches-longer i k (Field.End n) e h = omega arith
-reaches-longer i k (Field.Cr n) e h = omega arith
-reaches-longer i k Field.Open e h = tt
-reaches-longer i k Field.Bad e h = tt
+reaches_longer : (i k : ℕ) (f : Field) → i ≤ k + 1 → Reaches k f → Reaches i (longer_by 1 f)
+reaches_longer i k (Field.Comma n) e h = omega arith
+reaches_longer i k (Field.Line n) e h = omega arith
+reaches_longer i k (Field.End n) e h = omega arith
+reaches_longer i k (Field.Cr n) e h = omega arith
+reaches_longer i k Field.Open e h = tt
+reaches_longer i k Field.Bad e h = tt
 
 -- One byte longer, both of them.
-goes-longer : (k : ℕ) (f g : Field) → Goes k f g → Goes (suc k) (longerBy 1 f) (longerBy 1 g)
-goes-longer k (Field.Comma n) g h = ap (longerBy 1) h
-goes-longer k (Field.Line n) g h = ap (longerBy 1) h
-goes-longer k (Field.End n) g h = reaches-longer (1 + n) n g (omega arith) h
-goes-longer k (Field.Cr n) g h = reaches-longer (1 + n) n g (omega arith) h
-goes-longer k Field.Open g h = reaches-longer (suc k + 1) (k + 1) g (omega arith) h
-goes-longer k Field.Bad g h = ap (longerBy 1) h
+goes_longer : (k : ℕ) (f g : Field) → Goes k f g → Goes (suc k) (longer_by 1 f) (longer_by 1 g)
+goes_longer k (Field.Comma n) g h = ap (longer_by 1) h
+goes_longer k (Field.Line n) g h = ap (longer_by 1) h
+goes_longer k (Field.End n) g h = reaches_longer (1 + n) n g (omega arith) h
+goes_longer k (Field.Cr n) g h = reaches_longer (1 + n) n g (omega arith) h
+goes_longer k Field.Open g h = reaches_longer (suc k + 1) (k + 1) g (omega arith) h
+goes_longer k Field.Bad g h = ap (longer_by 1) h
 
 -- A test on a byte that is there falls out the same.
 pub both : (P : Field → Field → Type 0) (t : Bool) (f g h i : Field) → P f g → P h i → P (cond t f h) (cond t g i)
@@ -72,47 +72,47 @@ both P true f g h i p q = p
 both P false f g h i p q = q
 
 -- Between quotes there is at least a closing quote.
-quoted-reaches : (d : List ℕ) → Reaches 1 (scan quoted d)
+quoted_reaches : (d : List ℕ) → Reaches 1 (scan quoted d)
 unfolding scan
-quoted-reaches [] = tt
-quoted-reaches (b ∷ d) = by (eqb b quote)
+quoted_reaches [] = tt
+quoted_reaches (b ∷ d) = by (eqb b quote)
   where
-    by : (t : Bool) → Reaches 1 (cond t (longerBy 1 (scan closed d)) (longerBy 1 (scan quoted d)))
-    by true = reaches-longer 1 0 (scan closed d) (omega arith) (reaches-none (scan closed d))
-    by false = reaches-longer 1 0 (scan quoted d) (omega arith) (reaches-none (scan quoted d))
+    by : (t : Bool) → Reaches 1 (cond t (longer_by 1 (scan closed d)) (longer_by 1 (scan quoted d)))
+    by true = reaches_longer 1 0 (scan closed d) (omega arith) (reaches_none (scan closed d))
+    by false = reaches_longer 1 0 (scan quoted d) (omega arith) (reaches_none (scan quoted d))
 
 -- What stands behind a CR, and behind a field.
-cr-goes : (a d : List ℕ) → Goes (suc (length a)) (afterCr a) (afterCr (a ++ d))
-unfolding afterCr
-cr-goes [] d = reaches-none (afterCr d)
-cr-goes (b ∷ a) d = both (Goes (suc (suc (length a)))) (eqb b lf) _ _ _ _ refl refl
+cr_goes : (a d : List ℕ) → Goes (suc (length a)) (after_cr a) (after_cr (a ++ d))
+unfolding after_cr
+cr_goes [] d = reaches_none (after_cr d)
+cr_goes (b ∷ a) d = both (Goes (suc (suc (length a)))) (eqb b lf) _ _ _ _ refl refl
 
-behind-goes : (b : ℕ) (a d : List ℕ) → Goes (suc (length a)) (behind (b ∷ a)) (behind (b ∷ (a ++ d)))
+behind_goes : (b : ℕ) (a d : List ℕ) → Goes (suc (length a)) (behind (b ∷ a)) (behind (b ∷ (a ++ d)))
 unfolding behind
-behind-goes b a d =
-    both (Goes (suc (length a))) (eqb b comma) _ _ _ _ refl (both (Goes (suc (length a))) (eqb b cr) _ _ _ _ (cr-goes a d) refl)
+behind_goes b a d =
+    both (Goes (suc (length a))) (eqb b comma) _ _ _ _ refl (both (Goes (suc (length a))) (eqb b cr) _ _ _ _ (cr_goes a d) refl)
 
 -- One byte further the field is one byte longer.
 further : (w : Where) (a d : List ℕ) → Goes (length a) (scan w a) (scan w (a ++ d))
-    → Goes (suc (length a)) (longerBy 1 (scan w a)) (longerBy 1 (scan w (a ++ d)))
-further w a d h = goes-longer (length a) (scan w a) (scan w (a ++ d)) h
+    → Goes (suc (length a)) (longer_by 1 (scan w a)) (longer_by 1 (scan w (a ++ d)))
+further w a d h = goes_longer (length a) (scan w a) (scan w (a ++ d)) h
 
 -- What the machine finds.
-scan-goes : (w : Where) (a d : List ℕ) → Goes (length a) (scan w a) (scan w (a ++ d))
+scan_goes : (w : Where) (a d : List ℕ) → Goes (length a) (scan w a) (scan w (a ++ d))
 unfolding scan behind
-scan-goes quoted [] d = quoted-reaches d
-scan-goes start [] d = reaches-none (scan start d)
-scan-goes plain [] d = reaches-none (scan plain d)
-scan-goes closed [] d = reaches-none (scan closed d)
-scan-goes start (b ∷ a) d =
-    both (Goes (suc (length a))) (eqb b quote) _ _ _ _ (further quoted a d (scan-goes quoted a d))
-    (both (Goes (suc (length a))) (plain_byte b) _ _ _ _ (further plain a d (scan-goes plain a d)) (behind-goes b a d))
-scan-goes plain (b ∷ a) d =
-    both (Goes (suc (length a))) (plain_byte b) _ _ _ _ (further plain a d (scan-goes plain a d)) (behind-goes b a d)
-scan-goes quoted (b ∷ a) d =
-    both (Goes (suc (length a))) (eqb b quote) _ _ _ _ (further closed a d (scan-goes closed a d)) (further quoted a d (scan-goes quoted a d))
-scan-goes closed (b ∷ a) d =
-    both (Goes (suc (length a))) (eqb b quote) _ _ _ _ (further quoted a d (scan-goes quoted a d)) (behind-goes b a d)
+scan_goes quoted [] d = quoted_reaches d
+scan_goes start [] d = reaches_none (scan start d)
+scan_goes plain [] d = reaches_none (scan plain d)
+scan_goes closed [] d = reaches_none (scan closed d)
+scan_goes start (b ∷ a) d =
+    both (Goes (suc (length a))) (eqb b quote) _ _ _ _ (further quoted a d (scan_goes quoted a d))
+    (both (Goes (suc (length a))) (plain_byte b) _ _ _ _ (further plain a d (scan_goes plain a d)) (behind_goes b a d))
+scan_goes plain (b ∷ a) d =
+    both (Goes (suc (length a))) (plain_byte b) _ _ _ _ (further plain a d (scan_goes plain a d)) (behind_goes b a d)
+scan_goes quoted (b ∷ a) d =
+    both (Goes (suc (length a))) (eqb b quote) _ _ _ _ (further closed a d (scan_goes closed a d)) (further quoted a d (scan_goes quoted a d))
+scan_goes closed (b ∷ a) d =
+    both (Goes (suc (length a))) (eqb b quote) _ _ _ _ (further quoted a d (scan_goes quoted a d)) (behind_goes b a d)
 
 -- The same of rows.
 abbrev RowReaches : ℕ → Row → Type 0
@@ -130,63 +130,63 @@ RowGoes k cut r = RowReaches (k + 1) r
 RowGoes k broken r = r ≡ broken
 
 -- A field and a comma more before a row.
-before-reaches : (k j n : ℕ) (f : List ℕ) → k ≤ n + 1 + j → (r : Row) → RowReaches j r → RowReaches k (fieldBefore f n r)
-before-reaches k j n f e (line fs m) h = omega arith
-before-reaches k j n f e (bare fs m) h = omega arith
-before-reaches k j n f e (halved m) h = omega arith
-before-reaches k j n f e cut h = tt
-before-reaches k j n f e broken h = tt
+before_reaches : (k j n : ℕ) (f : List ℕ) → k ≤ n + 1 + j → (r : Row) → RowReaches j r → RowReaches k (field_before f n r)
+before_reaches k j n f e (line fs m) h = omega arith
+before_reaches k j n f e (bare fs m) h = omega arith
+before_reaches k j n f e (halved m) h = omega arith
+before_reaches k j n f e cut h = tt
+before_reaches k j n f e broken h = tt
 
-before-goes : (k j n : ℕ) (f : List ℕ) → k ≤ n + 1 + j → (r s : Row) → RowGoes j r s → RowGoes k (fieldBefore f n r) (fieldBefore f n s)
-before-goes k j n f e (line fs m) s h = ap (fieldBefore f n) h
-before-goes k j n f e (bare fs m) s h = before-reaches (n + 1 + m) m n f (le_refl (n + 1 + m)) s h
-before-goes k j n f e (halved m) s h = before-reaches (n + 1 + m) m n f (le_refl (n + 1 + m)) s h
-before-goes k j n f e cut s h = before-reaches (k + 1) (j + 1) n f (omega arith) s h
-before-goes k j n f e broken s h = ap (fieldBefore f n) h
+before_goes : (k j n : ℕ) (f : List ℕ) → k ≤ n + 1 + j → (r s : Row) → RowGoes j r s → RowGoes k (field_before f n r) (field_before f n s)
+before_goes k j n f e (line fs m) s h = ap (field_before f n) h
+before_goes k j n f e (bare fs m) s h = before_reaches (n + 1 + m) m n f (le_refl (n + 1 + m)) s h
+before_goes k j n f e (halved m) s h = before_reaches (n + 1 + m) m n f (le_refl (n + 1 + m)) s h
+before_goes k j n f e cut s h = before_reaches (k + 1) (j + 1) n f (omega arith) s h
+before_goes k j n f e broken s h = ap (field_before f n) h
 
 -- Every row has at least no bytes.
-row-reaches-none : (r : Row) → RowReaches 0 r
-row-reaches-none (line fs n) = omega arith
-row-reaches-none (bare fs n) = omega arith
-row-reaches-none (halved n) = omega arith
-row-reaches-none cut = tt
-row-reaches-none broken = tt
+row_reaches_none : (r : Row) → RowReaches 0 r
+row_reaches_none (line fs n) = omega arith
+row_reaches_none (bare fs n) = omega arith
+row_reaches_none (halved n) = omega arith
+row_reaches_none cut = tt
+row_reaches_none broken = tt
 
 -- A row is no shorter than its first field.
-from-reaches : (k : ℕ) (rest : List ℕ → Row) (l : List ℕ) (f : Field) → Reaches k f → RowReaches k (rowFrom rest l f)
-from-reaches k rest l (Field.Comma n) h =
-    before-reaches k 0 n (take n l) (omega arith) (rest (drop (n + 1) l)) (row-reaches-none (rest (drop (n + 1) l)))
-from-reaches k rest l (Field.Line n) h = h
-from-reaches k rest l (Field.End n) h = h
-from-reaches k rest l (Field.Cr n) h = h
-from-reaches k rest l Field.Open h = tt
-from-reaches k rest l Field.Bad h = tt
+from_reaches : (k : ℕ) (rest : List ℕ → Row) (l : List ℕ) (f : Field) → Reaches k f → RowReaches k (row_from rest l f)
+from_reaches k rest l (Field.Comma n) h =
+    before_reaches k 0 n (take n l) (omega arith) (rest (drop (n + 1) l)) (row_reaches_none (rest (drop (n + 1) l)))
+from_reaches k rest l (Field.Line n) h = h
+from_reaches k rest l (Field.End n) h = h
+from_reaches k rest l (Field.Cr n) h = h
+from_reaches k rest l Field.Open h = tt
+from_reaches k rest l Field.Bad h = tt
 
 -- The row at the front.
 row_goes : (most : ℕ) (a b : List ℕ) → RowGoes (length a) (row_of most a) (row_of most (a ++ b))
 unfolding row_of
 row_goes zero a b = refl
-row_goes (suc most) a b = by (field_at a) refl (scan-goes start a b) (λ n. row_goes most (drop (n + 1) a) b)
+row_goes (suc most) a b = by (field_at a) refl (scan_goes start a b) (λ n. row_goes most (drop (n + 1) a) b)
   where
     by : (f : Field) → field_at a ≡ f → Goes (length a) f (field_at (a ++ b))
         → ((n : ℕ) → RowGoes (length (drop (n + 1) a)) (row_of most (drop (n + 1) a)) (row_of most (drop (n + 1) a ++ b)))
-        → RowGoes (length a) (rowFrom (row_of most) a f) (rowFrom (row_of most) (a ++ b) (field_at (a ++ b)))
+        → RowGoes (length a) (row_from (row_of most) a f) (row_from (row_of most) (a ++ b) (field_at (a ++ b)))
     by (Field.Comma n) e g i =
-        let h = comma-within a e in
+        let h = comma_within a e in
         rw (g, take-append-le n a b (omega arith), drop-append-le (n + 1) a b h)
-        (before-goes (length a) (length (drop (n + 1) a)) n (take n a) (omega (arith, length-drop (n + 1) a)) (row_of most (drop (n + 1) a))
+        (before_goes (length a) (length (drop (n + 1) a)) n (take n a) (omega (arith, length-drop (n + 1) a)) (row_of most (drop (n + 1) a))
         (row_of most (drop (n + 1) a ++ b)) (i n))
-    by (Field.Line n) e g i = let h = line-within a e in rw (g, take-append-le n a b (omega arith))
-    by (Field.End n) e g i = from-reaches n (row_of most) (a ++ b) (field_at (a ++ b)) g
-    by (Field.Cr n) e g i = from-reaches n (row_of most) (a ++ b) (field_at (a ++ b)) g
-    by Field.Open e g i = from-reaches (length a + 1) (row_of most) (a ++ b) (field_at (a ++ b)) g
+    by (Field.Line n) e g i = let h = line_within a e in rw (g, take-append-le n a b (omega arith))
+    by (Field.End n) e g i = from_reaches n (row_of most) (a ++ b) (field_at (a ++ b)) g
+    by (Field.Cr n) e g i = from_reaches n (row_of most) (a ++ b) (field_at (a ++ b)) g
+    by Field.Open e g i = from_reaches (length a + 1) (row_of most) (a ++ b) (field_at (a ++ b)) g
     by Field.Bad e g i = rw g
 
 -- A record that is whole before the text's end is the same with bytes behind the text.
-pub whole-stays : (last : Bool) (most : ℕ) (a b : List ℕ) {fs : List (List ℕ)} {k : ℕ} → recordAt false most a ≡ whole fs k
-    → recordAt last most (a ++ b) ≡ whole fs k
-unfolding recordAt
-whole-stays last most a b {fs} {k} e = by (row_of most a) (row_of most (a ++ b)) (row_goes most a b) e
+pub whole_stays : (last : Bool) (most : ℕ) (a b : List ℕ) {fs : List (List ℕ)} {k : ℕ} → record_at false most a ≡ whole fs k
+    → record_at last most (a ++ b) ≡ whole fs k
+unfolding record_at
+whole_stays last most a b {fs} {k} e = by (row_of most a) (row_of most (a ++ b)) (row_goes most a b) e
   where
     never : (t : Bool) → cond t more bad ≡ whole fs k → ⊥
     never true d = let z : ◌≡◌ {A = ℕ} 0 1 = cc in omega arith
@@ -194,33 +194,33 @@ whole-stays last most a b {fs} {k} e = by (row_of most a) (row_of most (a ++ b))
 
     by : (r s : Row) → RowGoes (length a) r s → judged false (length a) r ≡ whole fs k → judged last (length (a ++ b)) s ≡ whole fs k
     by (line gs n) s g h = ap (judged last (length (a ++ b))) g ∙ h
-    by (bare gs n) s g h = absurd (never (fewBytes n) h)
-    by (halved n) s g h = absurd (never (fewBytes n) h)
-    by cut s g h = absurd (never (fewBytes (length a + 1)) h)
+    by (bare gs n) s g h = absurd (never (few_bytes n) h)
+    by (halved n) s g h = absurd (never (few_bytes n) h)
+    by cut s g h = absurd (never (few_bytes (length a + 1)) h)
     by broken s g h = absurd (never false h)
 
 -- A row of at least k bytes, in a text of k bytes or with no more than a closing quote to come, is no record if k are too many.
-long-bad : (last : Bool) (k n : ℕ) (r : Row) → mostBytes < k → k ≤ n + 1 → RowReaches k r → judged last n r ≡ bad
-long-bad last k n (line fs m) h i g = rw (lt-leb m mostBytes (omega arith))
-long-bad true k n (bare fs m) h i g = rw (lt-leb m mostBytes (omega arith))
-long-bad false k n (bare fs m) h i g = rw (lt-leb m mostBytes (omega arith))
-long-bad true k n (halved m) h i g = refl
-long-bad false k n (halved m) h i g = rw (lt-leb m mostBytes (omega arith))
-long-bad true k n cut h i g = refl
-long-bad false k n cut h i g = rw (lt-leb (n + 1) mostBytes (omega arith))
-long-bad last k n broken h i g = refl
+long_bad : (last : Bool) (k n : ℕ) (r : Row) → most_bytes < k → k ≤ n + 1 → RowReaches k r → judged last n r ≡ bad
+long_bad last k n (line fs m) h i g = rw (lt-leb m most_bytes (omega arith))
+long_bad true k n (bare fs m) h i g = rw (lt-leb m most_bytes (omega arith))
+long_bad false k n (bare fs m) h i g = rw (lt-leb m most_bytes (omega arith))
+long_bad true k n (halved m) h i g = refl
+long_bad false k n (halved m) h i g = rw (lt-leb m most_bytes (omega arith))
+long_bad true k n cut h i g = refl
+long_bad false k n cut h i g = rw (lt-leb (n + 1) most_bytes (omega arith))
+long_bad last k n broken h i g = refl
 
 -- What is no record, though nothing says that the text ends, is none with bytes behind the text.
-pub none_stays : (last : Bool) (most : ℕ) (a b : List ℕ) → recordAt false most a ≡ bad → recordAt last most (a ++ b) ≡ bad
-unfolding recordAt
+pub none_stays : (last : Bool) (most : ℕ) (a b : List ℕ) → record_at false most a ≡ bad → record_at last most (a ++ b) ≡ bad
+unfolding record_at
 none_stays last most a b e = by (row_of most a) (row_of most (a ++ b)) (row_lies most a) (row_goes most a b) e
   where
-    enough : (k : ℕ) (t : Bool) → fewBytes k ≡ t → cond t more bad ≡ bad → mostBytes < k
+    enough : (k : ℕ) (t : Bool) → few_bytes k ≡ t → cond t more bad ≡ bad → most_bytes < k
     enough k true d h = let z : ◌≡◌ {A = ℕ} 0 1 = cc in absurd (omega arith)
-    enough k false d h = leb-false k mostBytes d
+    enough k false d h = leb-false k most_bytes d
 
-    long : (k : ℕ) (s : Row) → k ≤ length a + 1 → RowReaches k s → cond (fewBytes k) more bad ≡ bad → judged last (length (a ++ b)) s ≡ bad
-    long k s i g h = long-bad last k (length (a ++ b)) s (enough k (fewBytes k) refl h) (omega (arith, length-append a b)) g
+    long : (k : ℕ) (s : Row) → k ≤ length a + 1 → RowReaches k s → cond (few_bytes k) more bad ≡ bad → judged last (length (a ++ b)) s ≡ bad
+    long k s i g h = long_bad last k (length (a ++ b)) s (enough k (few_bytes k) refl h) (omega (arith, length-append a b)) g
 
     by : (r s : Row) → RowLies (length a) r → RowGoes (length a) r s → judged false (length a) r ≡ bad → judged last (length (a ++ b)) s ≡ bad
     by (line gs n) s i g h = ap (judged last (length (a ++ b))) g ∙ h

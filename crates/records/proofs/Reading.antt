@@ -15,19 +15,19 @@ use mir.Val.{Fits}
 use types.Run.{OneOf}
 use denote.Enum as enum
 use Rattle.laws.specs.Over.{over}
-use Rattle.laws.proofs.Over.{over_none, set-over, over-length, over-over}
-use Rattle.records.specs.Fields.{field_at, fieldLen}
-use Rattle.records.specs.Rows.{recordAt, size_of, endsBehind, endsOf, RowSays}
-use Rattle.records.specs.Inner.{endedBy}
+use Rattle.laws.proofs.Over.{over_none, set_over, over_length, over_over}
+use Rattle.records.specs.Fields.{field_at, field_len}
+use Rattle.records.specs.Rows.{record_at, size_of, ends_behind, ends_of, RowSays}
+use Rattle.records.specs.Inner.{ended_by}
 use Rattle.records.specs.declared.Field.{Field}
 use Rattle.records.specs.declared.Size.{Size}
 use Rattle.records.specs.contracts.Field as field
-use Rattle.records.proofs.Within.{comma-within, len-within}
-use Rattle.records.proofs.Come.{Come, come-start, come-on, come-ended, come-too-many}
+use Rattle.records.proofs.Within.{comma_within, len_within}
+use Rattle.records.proofs.Come.{Come, come_start, come_on, come_ended, come_too_many}
 
 -- The other variants are no Comma.
-no-comma : (f : Field) → OneOf (1 ∷ 2 ∷ 3 ∷ 4 ∷ 5 ∷ []) (enum.Declared.tag_of field.the_type f) → (n : ℕ) → f ≡ Field.Comma n → ⊥
-no-comma f h n e = other (subst (λ (g : Field). OneOf (1 ∷ 2 ∷ 3 ∷ 4 ∷ 5 ∷ []) (enum.Declared.tag_of field.the_type g)) e h)
+no_comma : (f : Field) → OneOf (1 ∷ 2 ∷ 3 ∷ 4 ∷ 5 ∷ []) (enum.Declared.tag_of field.the_type f) → (n : ℕ) → f ≡ Field.Comma n → ⊥
+no_comma f h n e = other (subst (λ (g : Field). OneOf (1 ∷ 2 ∷ 3 ∷ 4 ∷ 5 ∷ []) (enum.Declared.tag_of field.the_type g)) e h)
   where
     other : OneOf (1 ∷ 2 ∷ 3 ∷ 4 ∷ 5 ∷ []) 0 → ⊥
     other (inl d) = omega arith
@@ -39,24 +39,24 @@ no-comma f h n e = other (subst (λ (g : Field). OneOf (1 ∷ 2 ∷ 3 ∷ 4 ∷ 
 -- One end more is stored behind those before it.
 set_more : (d x : List ℕ) (c e : ℕ) → length x ≡ c → c < length d → set (over d 0 x) c e ≡ over d 0 (x ++ e ∷ [])
 set_more d x c e long h =
-    set-over (over d 0 x) c e (omega (arith, over-length d 0 x room))
+    set_over (over d 0 x) c e (omega (arith, over_length d 0 x room))
     ∙ ap (λ (k : ℕ). over (over d 0 x) k (e ∷ [])) (sym (zero-add (length x) ∙ long))
-    ∙ over-over d 0 x room (e ∷ [])
+    ∙ over_over d 0 x room (e ∷ [])
   where
     room : 0 + length x ≤ length d
     room = omega (arith, long)
 
 -- No ends, and the next one: no comma stands behind its field, or one does.
-ends-none : (at : ℕ) (l : List ℕ) → endsOf 0 at l ≡ []
-unfolding endsOf
-ends-none at l = refl
+ends_none : (at : ℕ) (l : List ℕ) → ends_of 0 at l ≡ []
+unfolding ends_of
+ends_none at l = refl
 
 module _ (most at : ℕ) (l : List ℕ) where
-  ends_next : {f : Field} → field_at l ≡ f → endsOf (suc most) at l ≡ (at + fieldLen f) ∷ endsBehind (endsOf most) at l f
-  unfolding endsOf
-  ends_next e = ap (λ (g : Field). (at + fieldLen g) ∷ endsBehind (endsOf most) at l g) e
+  ends_next : {f : Field} → field_at l ≡ f → ends_of (suc most) at l ≡ (at + field_len f) ∷ ends_behind (ends_of most) at l f
+  unfolding ends_of
+  ends_next e = ap (λ (g : Field). (at + field_len g) ∷ ends_behind (ends_of most) at l g) e
 
-  ends_last : (f : Field) → field_at l ≡ f → ((n : ℕ) → f ≡ Field.Comma n → ⊥) → endsOf (suc most) at l ≡ (at + fieldLen f) ∷ []
+  ends_last : (f : Field) → field_at l ≡ f → ((n : ℕ) → f ≡ Field.Comma n → ⊥) → ends_of (suc most) at l ≡ (at + field_len f) ∷ []
   ends_last (Field.Comma n) e h = absurd (h n refl)
   ends_last (Field.Line n) e h = ends_next e
   ends_last (Field.End n) e h = ends_next e
@@ -77,16 +77,16 @@ pub record RowAt (l : List ℕ) (at most : ℕ) (ends₀ ends : List ℕ) (room 
   pub long : length done ≡ c
   pub stored : ends ≡ over ends₀ 0 done
   pub size : length ends ≡ length ends₀
-  pub rest : endsOf room at (drop at l) ≡ done ++ endsOf left i (drop i l)
+  pub rest : ends_of room at (drop at l) ≡ done ++ ends_of left i (drop i l)
 
 -- Nothing is read.
-pub row-starts : (l : List ℕ) (at most : ℕ) (ends : List ℕ) {room : ℕ} → room ≡ min most (length ends) → RowAt l at most ends ends room at 0
-row-starts l at most ends {room} e = record {
+pub row_starts : (l : List ℕ) (at most : ℕ) (ends : List ℕ) {room : ℕ} → room ≡ min most (length ends) → RowAt l at most ends ends room at 0
+row_starts l at most ends {room} e = record {
   few = e;
   fields = [];
   bytes = 0;
   left = room;
-  come = come-start room (drop at l);
+  come = come_start room (drop at l);
   place = sym (add-zero at);
   count = refl;
   done = [];
@@ -98,89 +98,89 @@ row-starts l at most ends {room} e = record {
 
 module _ {l : List ℕ} {at most : ℕ} {ends₀ ends : List ℕ} {room i c : ℕ} (p : RowAt l at most ends₀ ends room i c) where
   -- What is said where the record and its ends are known.
-  says : (last : Bool) {r : Size} {d : List ℕ} → r ≡ size_of (recordAt last room (drop at l)) → d ≡ over ends₀ 0 (endsOf room at (drop at l))
+  says : (last : Bool) {r : Size} {d : List ℕ} → r ≡ size_of (record_at last room (drop at l)) → d ≡ over ends₀ 0 (ends_of room at (drop at l))
       → RowSays l at last most ends₀ r d
   says last e f = record {
-    size = e ∙ ap (λ (k : ℕ). size_of (recordAt last k (drop at l))) p.few;
-    ends-after = f ∙ ap (λ (k : ℕ). over ends₀ 0 (endsOf k at (drop at l))) p.few;
+    size = e ∙ ap (λ (k : ℕ). size_of (record_at last k (drop at l))) p.few;
+    ends_after = f ∙ ap (λ (k : ℕ). over ends₀ 0 (ends_of k at (drop at l))) p.few;
   }
 
   -- As many fields as there may be, and none is the last: no record.
-  pub row-many : (last : Bool) → room ≤ c → RowSays l at last most ends₀ Size.Bad ends
-  row-many last h = many p.left p.come p.rest
+  pub row_many : (last : Bool) → room ≤ c → RowSays l at last most ends₀ Size.Bad ends
+  row_many last h = many p.left p.come p.rest
     where
-      many : (left : ℕ) → Come room (drop at l) p.fields p.bytes left → endsOf room at (drop at l) ≡ p.done ++ endsOf left i (drop i l)
+      many : (left : ℕ) → Come room (drop at l) p.fields p.bytes left → ends_of room at (drop at l) ≡ p.done ++ ends_of left i (drop i l)
           → RowSays l at last most ends₀ Size.Bad ends
       many zero q e =
-          says last (sym (ap size_of (come-too-many last q)))
-          (p.stored ∙ ap (over ends₀ 0) (sym (e ∙ ap (λ (x : List ℕ). p.done ++ x) (ends-none i (drop i l)) ∙ append-nil p.done)))
+          says last (sym (ap size_of (come_too_many last q)))
+          (p.stored ∙ ap (over ends₀ 0) (sym (e ∙ ap (λ (x : List ℕ). p.done ++ x) (ends_none i (drop i l)) ∙ append-nil p.done)))
       many (suc left) q e = absurd (omega (arith, q.count, p.count))
 
   -- There is room for the end of the next field.
   pub row_room : c < room → c < length ends
   row_room h = omega (arith, p.few, p.size)
 
-  pub row-order : at ≤ i
-  row-order = omega (arith, p.place)
+  pub row_order : at ≤ i
+  row_order = omega (arith, p.place)
 
   -- The text from the place on.
-  rest-is : drop p.bytes (drop at l) ≡ drop i l
-  rest-is = drop-drop p.bytes at l ∙ ap (λ (k : ℕ). drop k l) (sym p.place)
+  rest_is : drop p.bytes (drop at l) ≡ drop i l
+  rest_is = drop-drop p.bytes at l ∙ ap (λ (k : ℕ). drop k l) (sym p.place)
 
-  module _ {f : Field} (e : f ≡ field_at (drop i l)) {len : ℕ} (d : len ≡ fieldLen f) where
+  module _ {f : Field} (e : f ≡ field_at (drop i l)) {len : ℕ} (d : len ≡ field_len f) where
     here : field_at (drop p.bytes (drop at l)) ≡ f
-    here = ap field_at rest-is ∙ sym e
+    here = ap field_at rest_is ∙ sym e
 
     -- The place behind the next field is a number of the machine.
     pub row_fits : length l < 2 ^ 64 → at < 2 ^ 64 → Fits w64 (i + len)
     row_fits h g = record {
-      fits = omega (arith, d ∙ ap fieldLen e, len-within (drop i l), length-drop i l, p.place, p.come.within, length-drop at l);
+      fits = omega (arith, d ∙ ap field_len e, len_within (drop i l), length-drop i l, p.place, p.come.within, length-drop at l);
     }
 
-    stored : c < room → endsOf room at (drop at l) ≡ p.done ++ (i + len) ∷ [] → set ends c (i + len) ≡ over ends₀ 0 (endsOf room at (drop at l))
+    stored : c < room → ends_of room at (drop at l) ≡ p.done ++ (i + len) ∷ [] → set ends c (i + len) ≡ over ends₀ 0 (ends_of room at (drop at l))
     stored h g =
         ap (λ (b : List ℕ). set b c (i + len)) p.stored ∙ set_more ends₀ p.done c (i + len) p.long (omega (arith, p.few))
         ∙ ap (over ends₀ 0) (sym g)
 
     -- No comma stands behind the next field: the record ends with it.
     pub row_last : (last : Bool) {k : ℕ} {r : Size} → c < room → OneOf (1 ∷ 2 ∷ 3 ∷ 4 ∷ 5 ∷ []) (enum.Declared.tag_of field.the_type f)
-        → k ≡ length l - at → r ≡ endedBy last k (c + 1) (i - at) f → RowSays l at last most ends₀ r (set ends c (i + len))
+        → k ≡ length l - at → r ≡ ended_by last k (c + 1) (i - at) f → RowSays l at last most ends₀ r (set ends c (i + len))
     row_last last {k} {r} h o j g = ending p.left p.come p.rest
       where
-        sized : r ≡ endedBy last (length (drop at l)) (length p.fields + 1) p.bytes f
+        sized : r ≡ ended_by last (length (drop at l)) (length p.fields + 1) p.bytes f
         sized =
-            g ∙ ap (λ (n : ℕ). endedBy last n (c + 1) (i - at) f) (j ∙ sym (length-drop at l))
-            ∙ ap (λ (m : ℕ). endedBy last (length (drop at l)) (m + 1) (i - at) f) (sym p.count)
-            ∙ ap (λ (b : ℕ). endedBy last (length (drop at l)) (length p.fields + 1) b f) (let b : i - at ≡ p.bytes = omega (arith, p.place) in b)
+            g ∙ ap (λ (n : ℕ). ended_by last n (c + 1) (i - at) f) (j ∙ sym (length-drop at l))
+            ∙ ap (λ (m : ℕ). ended_by last (length (drop at l)) (m + 1) (i - at) f) (sym p.count)
+            ∙ ap (λ (b : ℕ). ended_by last (length (drop at l)) (length p.fields + 1) b f) (let b : i - at ≡ p.bytes = omega (arith, p.place) in b)
 
-        ending : (left : ℕ) → Come room (drop at l) p.fields p.bytes left → endsOf room at (drop at l) ≡ p.done ++ endsOf left i (drop i l)
+        ending : (left : ℕ) → Come room (drop at l) p.fields p.bytes left → ends_of room at (drop at l) ≡ p.done ++ ends_of left i (drop i l)
             → RowSays l at last most ends₀ r (set ends c (i + len))
         ending zero q y = absurd (omega (arith, q.count, p.count))
         ending (suc left) q y =
-            says last (sized ∙ sym (come-ended q last f here (no-comma f o)))
+            says last (sized ∙ sym (come_ended q last f here (no_comma f o)))
             (stored h
             (y
             ∙ ap (λ (x : List ℕ). p.done ++ x)
-            (ends_last left i (drop i l) f (sym e) (no-comma f o) ∙ ap (λ (n : ℕ). (i + n) ∷ []) (sym d))))
+            (ends_last left i (drop i l) f (sym e) (no_comma f o) ∙ ap (λ (n : ℕ). (i + n) ∷ []) (sym d))))
 
     -- A comma does: one field more is read.
     module _ {n : ℕ} (g : f ≡ Field.Comma n) where
       inside : i + len + 1 ≤ length l
-      inside = omega (arith, d ∙ ap fieldLen g, comma-within (drop i l) (sym e ∙ g), length-drop i l)
+      inside = omega (arith, d ∙ ap field_len g, comma_within (drop i l) (sym e ∙ g), length-drop i l)
 
-      pub row-fits-on : length l < 2 ^ 64 → Fits w64 (i + len + 1)
-      row-fits-on h = record { fits = omega (arith, inside) }
+      pub row_fits_on : length l < 2 ^ 64 → Fits w64 (i + len + 1)
+      row_fits_on h = record { fits = omega (arith, inside) }
 
       pub row_on : c < room → RowAt l at most ends₀ (set ends c (i + len)) room (i + len + 1) (c + 1)
       row_on h = on p.left p.come p.rest
         where
           same : len ≡ n
-          same = d ∙ ap fieldLen g
+          same = d ∙ ap field_len g
 
           place : drop (n + 1) (drop i l) ≡ drop (i + len + 1) l
           place = drop-drop (n + 1) i l ∙ ap (λ (k : ℕ). drop k l) (let s : i + (n + 1) ≡ i + len + 1 = omega (arith, same) in s)
 
-          on : (left : ℕ) → Come room (drop at l) p.fields p.bytes left → endsOf room at (drop at l) ≡ p.done ++ endsOf left i (drop i l)
+          on : (left : ℕ) → Come room (drop at l) p.fields p.bytes left → ends_of room at (drop at l) ≡ p.done ++ ends_of left i (drop i l)
               → RowAt l at most ends₀ (set ends c (i + len)) room (i + len + 1) (c + 1)
           on zero q y = absurd (omega (arith, q.count, p.count))
           on (suc left) q y = record {
@@ -188,7 +188,7 @@ module _ {l : List ℕ} {at most : ℕ} {ends₀ ends : List ℕ} {room i c : �
             fields = p.fields ++ take n (drop p.bytes (drop at l)) ∷ [];
             bytes = p.bytes + n + 1;
             left = left;
-            come = come-on q (here ∙ g);
+            come = come_on q (here ∙ g);
             place = omega (arith, p.place, same);
             count = length-append p.fields (take n (drop p.bytes (drop at l)) ∷ []) ∙ ap (λ (k : ℕ). k + 1) p.count;
             done = p.done ++ (i + len) ∷ [];
@@ -200,11 +200,11 @@ module _ {l : List ℕ} {at most : ℕ} {ends₀ ends : List ℕ} {room i c : �
             rest =
                 y
                 ∙ ap (λ (x : List ℕ). p.done ++ x) next
-                ∙ sym (append_assoc p.done ((i + len) ∷ []) (endsOf left (i + len + 1) (drop (i + len + 1) l)));
+                ∙ sym (append_assoc p.done ((i + len) ∷ []) (ends_of left (i + len + 1) (drop (i + len + 1) l)));
           }
             where
-              next : endsOf (suc left) i (drop i l) ≡ (i + len) ∷ endsOf left (i + len + 1) (drop (i + len + 1) l)
+              next : ends_of (suc left) i (drop i l) ≡ (i + len) ∷ ends_of left (i + len + 1) (drop (i + len + 1) l)
               next =
                   ends_next left i (drop i l) (sym e ∙ g)
-                  ∙ ap (λ (k : ℕ). (i + k) ∷ endsOf left (i + k + 1) (drop (n + 1) (drop i l))) (sym same)
-                  ∙ ap (λ (x : List ℕ). (i + len) ∷ endsOf left (i + len + 1) x) place
+                  ∙ ap (λ (k : ℕ). (i + k) ∷ ends_of left (i + k + 1) (drop (n + 1) (drop i l))) (sym same)
+                  ∙ ap (λ (x : List ℕ). (i + len) ∷ ends_of left (i + len + 1) x) place

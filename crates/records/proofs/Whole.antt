@@ -9,10 +9,10 @@ use native.Mathlib.Omega.{arith}
 use lib.ListN.{length, take, drop, length-drop}
 use borrow.Author.Tests.{leb-true}
 use Rattle.records.specs.Fields.{field_at}
-use Rattle.records.specs.Rows.{Row, line, bare, halved, cut, broken, fieldBefore, rowFrom, row_of}
-use Rattle.records.specs.Rows.{Record, whole, more, bad, mostBytes, lineEnd, fewBytes, judged, recordAt}
+use Rattle.records.specs.Rows.{Row, line, bare, halved, cut, broken, field_before, row_from, row_of}
+use Rattle.records.specs.Rows.{Record, whole, more, bad, most_bytes, line_end, few_bytes, judged, record_at}
 use Rattle.records.specs.declared.Field.{Field}
-use Rattle.records.proofs.Within.{comma-within, line-within, end-within, cr-within}
+use Rattle.records.proofs.Within.{comma_within, line_within, end_within, cr_within}
 
 -- A row has a field, and lies within the text.
 abbrev pub RowLies : ℕ → Row → Type 0
@@ -23,12 +23,12 @@ RowLies size cut = Unit {0}
 RowLies size broken = Unit {0}
 
 -- A field and a comma more before a row.
-before-lies : (f : List ℕ) (n size rest : ℕ) → n + 1 + rest ≡ size → (r : Row) → RowLies rest r → RowLies size (fieldBefore f n r)
-before-lies f n size rest e (line fs m) h = (omega (arith, h.0), omega arith)
-before-lies f n size rest e (bare fs m) h = (omega (arith, h.0), omega arith)
-before-lies f n size rest e (halved m) h = omega arith
-before-lies f n size rest e cut h = tt
-before-lies f n size rest e broken h = tt
+before_lies : (f : List ℕ) (n size rest : ℕ) → n + 1 + rest ≡ size → (r : Row) → RowLies rest r → RowLies size (field_before f n r)
+before_lies f n size rest e (line fs m) h = (omega (arith, h.0), omega arith)
+before_lies f n size rest e (bare fs m) h = (omega (arith, h.0), omega arith)
+before_lies f n size rest e (halved m) h = omega arith
+before_lies f n size rest e cut h = tt
+before_lies f n size rest e broken h = tt
 
 -- The row at the front of a text lies within it.
 pub row_lies : (most : ℕ) (l : List ℕ) → RowLies (length l) (row_of most l)
@@ -37,13 +37,13 @@ row_lies zero l = tt
 row_lies (suc most) l = by (field_at l) refl (λ n. row_lies most (drop (n + 1) l))
   where
     by : (f : Field) → field_at l ≡ f → ((n : ℕ) → RowLies (length (drop (n + 1) l)) (row_of most (drop (n + 1) l)))
-        → RowLies (length l) (rowFrom (row_of most) l f)
+        → RowLies (length l) (row_from (row_of most) l f)
     by (Field.Comma n) e g =
-        before-lies (take n l) n (length l) (length (drop (n + 1) l)) (omega (arith, comma-within l e, length-drop (n + 1) l))
+        before_lies (take n l) n (length l) (length (drop (n + 1) l)) (omega (arith, comma_within l e, length-drop (n + 1) l))
         (row_of most (drop (n + 1) l)) (g n)
-    by (Field.Line n) e g = (line-within l e, omega arith)
-    by (Field.End n) e g = (end-within l e, omega arith)
-    by (Field.Cr n) e g = cr-within l e
+    by (Field.Line n) e g = (line_within l e, omega arith)
+    by (Field.End n) e g = (end_within l e, omega arith)
+    by (Field.Cr n) e g = cr_within l e
     by Field.Open e g = tt
     by Field.Bad e g = tt
 
@@ -56,37 +56,37 @@ pub record WholeHere (l : List ℕ) (fs : List (List ℕ)) (k : ℕ) : Type 0 wh
 -- What a record says of the text.
 abbrev Says : List ℕ → Record → Type 0
 Says l (whole fs k) = WholeHere l fs k
-Says l more = length l < mostBytes + lineEnd
+Says l more = length l < most_bytes + line_end
 Says l bad = Unit {0}
 
 -- What a test of the length chooses.
-says-closed : (t : Bool) (l : List ℕ) (fs : List (List ℕ)) (k : ℕ) → WholeHere l fs k → Says l (cond t (whole fs k) bad)
-says-closed true l fs k h = h
-says-closed false l fs k h = tt
+says_closed : (t : Bool) (l : List ℕ) (fs : List (List ℕ)) (k : ℕ) → WholeHere l fs k → Says l (cond t (whole fs k) bad)
+says_closed true l fs k h = h
+says_closed false l fs k h = tt
 
-says-unfinished : (t : Bool) (l : List ℕ) (k : ℕ) → length l ≤ k + 1 → fewBytes k ≡ t → Says l (cond t more bad)
-says-unfinished true l k h e = omega (arith, leb-true k mostBytes e)
-says-unfinished false l k h e = tt
+says_unfinished : (t : Bool) (l : List ℕ) (k : ℕ) → length l ≤ k + 1 → few_bytes k ≡ t → Says l (cond t more bad)
+says_unfinished true l k h e = omega (arith, leb-true k most_bytes e)
+says_unfinished false l k h e = tt
 
 -- What a row says, it says as a record.
-judged-says : (last : Bool) (l : List ℕ) (r : Row) → RowLies (length l) r → Says l (judged last (length l) r)
-judged-says last l (line fs k) h =
-    says-closed (fewBytes k) l fs (k + lineEnd) (record { within = h.0; some = λ i. omega arith; fields = h.1 })
-judged-says true l (bare fs k) h =
-    says-closed (fewBytes k) l fs (k + 0) (record { within = omega (arith, h.0); some = λ i. omega (arith, h.0); fields = h.1 })
-judged-says false l (bare fs k) h = says-unfinished (fewBytes k) l k (omega (arith, h.0)) refl
-judged-says true l (halved k) h = tt
-judged-says false l (halved k) h = says-unfinished (fewBytes k) l k (omega arith) refl
-judged-says true l cut h = tt
-judged-says false l cut h = says-unfinished (fewBytes (length l + 1)) l (length l + 1) (omega arith) refl
-judged-says last l broken h = tt
+judged_says : (last : Bool) (l : List ℕ) (r : Row) → RowLies (length l) r → Says l (judged last (length l) r)
+judged_says last l (line fs k) h =
+    says_closed (few_bytes k) l fs (k + line_end) (record { within = h.0; some = λ i. omega arith; fields = h.1 })
+judged_says true l (bare fs k) h =
+    says_closed (few_bytes k) l fs (k + 0) (record { within = omega (arith, h.0); some = λ i. omega (arith, h.0); fields = h.1 })
+judged_says false l (bare fs k) h = says_unfinished (few_bytes k) l k (omega (arith, h.0)) refl
+judged_says true l (halved k) h = tt
+judged_says false l (halved k) h = says_unfinished (few_bytes k) l k (omega arith) refl
+judged_says true l cut h = tt
+judged_says false l cut h = says_unfinished (few_bytes (length l + 1)) l (length l + 1) (omega arith) refl
+judged_says last l broken h = tt
 
 -- A record that is whole is there.
-pub whole_here : (last : Bool) (most : ℕ) (l : List ℕ) {fs : List (List ℕ)} {k : ℕ} → recordAt last most l ≡ whole fs k → WholeHere l fs k
-unfolding recordAt
-whole_here last most l e = subst (Says l) e (judged-says last l (row_of most l) (row_lies most l))
+pub whole_here : (last : Bool) (most : ℕ) (l : List ℕ) {fs : List (List ℕ)} {k : ℕ} → record_at last most l ≡ whole fs k → WholeHere l fs k
+unfolding record_at
+whole_here last most l e = subst (Says l) e (judged_says last l (row_of most l) (row_lies most l))
 
 -- A text that ends before its record does is short.
-pub more-short : (last : Bool) (most : ℕ) (l : List ℕ) → recordAt last most l ≡ more → length l < mostBytes + lineEnd
-unfolding recordAt
-more-short last most l e = subst (Says l) e (judged-says last l (row_of most l) (row_lies most l))
+pub more_short : (last : Bool) (most : ℕ) (l : List ℕ) → record_at last most l ≡ more → length l < most_bytes + line_end
+unfolding record_at
+more_short last most l e = subst (Says l) e (judged_says last l (row_of most l) (row_lies most l))

@@ -2,9 +2,9 @@
 //
 // Every function takes any place and any bytes. Past a text's end there is nothing.
 ghost use Rattle.std.specs.Prelude.{◌≡◌, ◌+◌, ◌-◌, ◌≤◌, min, length, drop, get_or};
-ghost use Rattle.records.specs.Fields.{plain_byte, behind, longerBy, field_at, fieldLen};
-ghost use Rattle.records.specs.Rows.{lineEnd, RowSays, start_at, nthField};
-ghost use Rattle.records.specs.Inner.{PlainRun, QuotedRun, Closing, closedSize, unfinishedSize, endedBy};
+ghost use Rattle.records.specs.Fields.{plain_byte, behind, longer_by, field_at, field_len};
+ghost use Rattle.records.specs.Rows.{line_end, RowSays, start_at, nth_field};
+ghost use Rattle.records.specs.Inner.{PlainRun, QuotedRun, Closing, closed_size, unfinished_size, ended_by};
 
 use scans::{COMMA, CR, LF, QUOTE, byte_at};
 
@@ -19,7 +19,7 @@ pub const LINE_END: usize = 2;
 
 // What stands behind a field, and the field's bytes, its quotes among them: a comma; a CRLF; nothing; a CR with nothing behind it. Open where the text ends
 // between the field's quotes; Bad where it is no field of RFC 4180 with one of these behind it.
-#[derive(Drop)]
+#[derive(Clone, Copy)]
 pub enum Field {
     Comma(usize),
     Line(usize),
@@ -30,14 +30,14 @@ pub enum Field {
 }
 
 // How many fields a record has, and how many bytes with its line end.
-#[derive(Drop)]
+#[derive(Clone, Copy)]
 pub struct Extent {
     pub fields: usize,
     pub bytes: usize,
 }
 
 // What stands where a record should: a whole one; More where the text ends before it does; Bad where it is none.
-#[derive(Drop)]
+#[derive(Clone, Copy)]
 pub enum Size {
     Whole(Extent),
     More,
@@ -63,7 +63,7 @@ pub fn read_field(text: &[u8], at: usize) -> Field
 
 // How many bytes a field has; 0 where it is none.
 fn field_len(found: Field) -> usize
-    ensures { result ≡ fieldLen found }
+    ensures { result ≡ field_len found }
 {
     match found {
         Field::Comma(len) => len,
@@ -101,7 +101,7 @@ pub fn read_row(text: &[u8], at: usize, last: bool, most: usize, ends: &mut [usi
 // Field c, from 0, of the record at a place, as a part of the text; `ends` says where the fields end, as `read_row` leaves it. The field starts at the record's
 // place or behind the comma of the field before it. Behind the last of the ends there is none, and past the text's end it has no bytes.
 pub fn nth_field<'a>(text: &'a [u8], at: usize, ends: &[usize], c: usize) -> &'a [u8]
-    ensures { result.now ≡ nthField text.now at ends.now c }
+    ensures { result.now ≡ nth_field text.now at ends.now c }
 {
     let end = end_within(ends, c, text.len());
     let start = start_within(at, ends, c, end);
@@ -152,7 +152,7 @@ fn left(text: &[u8], at: usize) -> usize
 // The size of a record whose last field is this one: of how many fields it is, and how many bytes stand before that one. The text has `left`
 // bytes from the record on.
 fn ended(found: Field, last: bool, left: usize, fields: usize, before: usize) -> Size
-    ensures { result ≡ endedBy last left fields before found }
+    ensures { result ≡ ended_by last left fields before found }
 {
     match found {
         Field::Line(len) => closed(fields, before, len, LINE_END),
@@ -174,8 +174,8 @@ fn ended(found: Field, last: bool, left: usize, fields: usize, before: usize) ->
 
 // The size of a record with a line end of so many bytes behind its last field.
 fn closed(fields: usize, before: usize, len: usize, end: usize) -> Size
-    requires { end ≤ lineEnd }
-    ensures { result ≡ closedSize fields (before + len) end }
+    requires { end ≤ line_end }
+    ensures { result ≡ closed_size fields (before + len) end }
 {
     if MOST_BYTES < before {
         return Size::Bad;
@@ -191,7 +191,7 @@ fn closed(fields: usize, before: usize, len: usize, end: usize) -> Size
 
 // The size of a record that does not end in the text: at least `before` and `len` bytes of it stand before its line end.
 fn unfinished(before: usize, len: usize) -> Size
-    ensures { result ≡ unfinishedSize (before + len) }
+    ensures { result ≡ unfinished_size (before + len) }
 {
     if MOST_BYTES < before {
         return Size::Bad;
@@ -205,7 +205,7 @@ fn unfinished(before: usize, len: usize) -> Size
 // What stands behind a field of so many bytes.
 fn behind_field(text: &[u8], at: usize, len: usize) -> Field
     requires { at + len ≤ length text.now }
-    ensures { result ≡ longerBy len (behind (drop (at + len) text.now)) }
+    ensures { result ≡ longer_by len (behind (drop (at + len) text.now)) }
 {
     let end = at + len;
     if text.len() <= end {

@@ -7,12 +7,12 @@ use Prim.Native.Nat.{ℕ}
 use lib.ListN.{get_or}
 use Rattle.refusals.specs.declared.Fault.{Fault}
 use Rattle.refusals.specs.declared.Refusal.{Refusal}
-use Rattle.refusals.specs.Numbers.{faultNumber}
+use Rattle.refusals.specs.Numbers.{fault_number}
 use Rattle.refusals.specs.Said.{Said}
 
 -- Answers that can be told back from what they say are equal if they say the same.
-pub said-injective : {A : Type 0} (said : A → Said) (back : Said → A) → ((x : A) → back (said x) ≡ x) → {x y : A} → said x ≡ said y → x ≡ y
-said-injective said back e {x} {y} same = sym (e x) ∙ ap back same ∙ e y
+pub said_injective : {A : Type 0} (said : A → Said) (back : Said → A) → ((x : A) → back (said x) ≡ x) → {x y : A} → said x ≡ said y → x ≡ y
+said_injective said back e {x} {y} same = sym (e x) ∙ ap back same ∙ e y
 
 -- The fault with a number; a number that no fault has is told as any.
 abbrev faults : List Fault
@@ -20,28 +20,28 @@ faults =
     Fault.TooLong ∷ Fault.TooLong ∷ Fault.Syntax ∷ Fault.Order ∷ Fault.TooMany ∷ Fault.NameTwice ∷ Fault.NoSuchItem ∷ Fault.LeftOrder ∷ Fault.EndCount
     ∷ Fault.NoLabelling ∷ Fault.BadTable ∷ Fault.NoRoom ∷ Fault.BadLabel ∷ Fault.TooLong ∷ Fault.TooLong ∷ Fault.TooLong ∷ Fault.CsvSyntax ∷ Fault.CsvHeader ∷ []
 
-abbrev pub faultOf : ℕ → Fault
-faultOf n = get_or faults n Fault.TooLong
+abbrev pub fault_of : ℕ → Fault
+fault_of n = get_or faults n Fault.TooLong
 
-pub fault-back : (f : Fault) → faultOf (faultNumber f) ≡ f
-fault-back Fault.TooLong = refl
-fault-back Fault.Syntax = refl
-fault-back Fault.Order = refl
-fault-back Fault.TooMany = refl
-fault-back Fault.NameTwice = refl
-fault-back Fault.NoSuchItem = refl
-fault-back Fault.LeftOrder = refl
-fault-back Fault.EndCount = refl
-fault-back Fault.NoLabelling = refl
-fault-back Fault.BadTable = refl
-fault-back Fault.NoRoom = refl
-fault-back Fault.BadLabel = refl
-fault-back Fault.CsvSyntax = refl
-fault-back Fault.CsvHeader = refl
+pub fault_back : (f : Fault) → fault_of (fault_number f) ≡ f
+fault_back Fault.TooLong = refl
+fault_back Fault.Syntax = refl
+fault_back Fault.Order = refl
+fault_back Fault.TooMany = refl
+fault_back Fault.NameTwice = refl
+fault_back Fault.NoSuchItem = refl
+fault_back Fault.LeftOrder = refl
+fault_back Fault.EndCount = refl
+fault_back Fault.NoLabelling = refl
+fault_back Fault.BadTable = refl
+fault_back Fault.NoRoom = refl
+fault_back Fault.BadLabel = refl
+fault_back Fault.CsvSyntax = refl
+fault_back Fault.CsvHeader = refl
 
 -- The refusal with a number and a place.
-abbrev pub refusalOf : ℕ → ℕ → Refusal
-refusalOf n p = record { fault = faultOf n; place = p }
+abbrev pub refusal_of : ℕ → ℕ → Refusal
+refusal_of n p = record { fault = fault_of n; place = p }
 
-pub refusal-back : (r : Refusal) → refusalOf (faultNumber r.fault) r.place ≡ r
-refusal-back r = ap (λ (f : Fault). record { fault = f; place = r.place }) (fault-back r.fault)
+pub refusal_back : (r : Refusal) → refusal_of (fault_number r.fault) r.place ≡ r
+refusal_back r = ap (λ (f : Fault). record { fault = f; place = r.place }) (fault_back r.fault)

@@ -3,18 +3,18 @@
 use Rattle.std.specs.Prelude.{ℕ}
 use Rattle.refusals.specs.declared.Fault.{Fault}
 
-abbrev pub faultNumber : Fault → ℕ
-faultNumber Fault.TooLong = 1
-faultNumber Fault.Syntax = 2
-faultNumber Fault.Order = 3
-faultNumber Fault.TooMany = 4
-faultNumber Fault.NameTwice = 5
-faultNumber Fault.NoSuchItem = 6
-faultNumber Fault.LeftOrder = 7
-faultNumber Fault.EndCount = 8
-faultNumber Fault.NoLabelling = 9
-faultNumber Fault.BadTable = 10
-faultNumber Fault.NoRoom = 11
-faultNumber Fault.BadLabel = 12
-faultNumber Fault.CsvSyntax = 16
-faultNumber Fault.CsvHeader = 17
+abbrev pub fault_number : Fault → ℕ
+fault_number Fault.TooLong = 1
+fault_number Fault.Syntax = 2
+fault_number Fault.Order = 3
+fault_number Fault.TooMany = 4
+fault_number Fault.NameTwice = 5
+fault_number Fault.NoSuchItem = 6
+fault_number Fault.LeftOrder = 7
+fault_number Fault.EndCount = 8
+fault_number Fault.NoLabelling = 9
+fault_number Fault.BadTable = 10
+fault_number Fault.NoRoom = 11
+fault_number Fault.BadLabel = 12
+fault_number Fault.CsvSyntax = 16
+fault_number Fault.CsvHeader = 17

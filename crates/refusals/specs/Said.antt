@@ -4,7 +4,7 @@
 use Rattle.std.specs.Prelude.{List, ℕ}
 use Rattle.refusals.specs.declared.Fault.{Fault}
 use Rattle.refusals.specs.declared.Refusal.{Refusal}
-use Rattle.refusals.specs.Numbers.{faultNumber}
+use Rattle.refusals.specs.Numbers.{fault_number}
 
 -- The successes of a routine are numbered from 0.
 pub data Said : Type 0 where
@@ -12,8 +12,8 @@ pub data Said : Type 0 where
   refused : ℕ → ℕ → Said
 
 -- A fault at a place.
-abbrev pub refusedBy : Fault → ℕ → Said
-refusedBy f p = refused (faultNumber f) p
+abbrev pub refused_by : Fault → ℕ → Said
+refused_by f p = refused (fault_number f) p
 
-abbrev pub saidRefusal : Refusal → Said
-saidRefusal r = refusedBy r.fault r.place
+abbrev pub said_refusal : Refusal → Said
+said_refusal r = refused_by r.fault r.place

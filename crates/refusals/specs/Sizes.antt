@@ -3,15 +3,15 @@
 use Rattle.std.specs.Prelude.{ℕ}
 
 -- TOO_LONG: "text read, or to be written, is over 32,768 bytes".
-abbrev pub mostText : ℕ
-mostText = 32768
+abbrev pub most_text : ℕ
+most_text = 32768
 
 -- TOO_MANY: "257th item, 1,025th rule, or a ninth left name".
-abbrev pub mostItems : ℕ
-mostItems = 256
+abbrev pub most_items : ℕ
+most_items = 256
 
-abbrev pub mostRules : ℕ
-mostRules = 1024
+abbrev pub most_rules : ℕ
+most_rules = 1024
 
-abbrev pub mostLeft : ℕ
-mostLeft = 8
+abbrev pub most_left : ℕ
+most_left = 8

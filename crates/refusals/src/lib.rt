@@ -1,6 +1,6 @@
 // The refusals that documents 01 and 02 number, each with its place, and the sizes past which a text or a book is refused.
 ghost use Rattle.std.specs.Prelude.{◌≡◌};
-ghost use Rattle.refusals.specs.Numbers.{faultNumber};
+ghost use Rattle.refusals.specs.Numbers.{fault_number};
 
 // The most bytes of a text.
 pub const MOST_TEXT: usize = 32768;
@@ -13,7 +13,7 @@ pub const MOST_RULES: usize = 1024;
 pub const MOST_LEFT: usize = 8;
 
 // What a refusal is for, in the order of the numbers.
-#[derive(Drop)]
+#[derive(Clone, Copy)]
 pub enum Fault {
     TooLong,
     Syntax,
@@ -32,7 +32,7 @@ pub enum Fault {
 }
 
 // A refusal: what it is for, and its place: a line, a part, an item, a record, or 0.
-#[derive(Drop)]
+#[derive(Clone, Copy)]
 pub struct Refusal {
     pub fault: Fault,
     pub place: u64,
@@ -40,7 +40,7 @@ pub struct Refusal {
 
 // The number of a fault.
 pub fn fault_number(fault: Fault) -> u64
-    ensures { result ≡ faultNumber fault }
+    ensures { result ≡ fault_number fault }
 {
     match fault {
         Fault::TooLong => 1,

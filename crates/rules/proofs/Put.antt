@@ -8,49 +8,49 @@ use native.Mathlib.Omega.{arith}
 use lib.ListN.{length, get_or}
 use lib.Seq.{ext_get_or}
 use borrow.Author.Tests.{le-leb, lt-leb}
-use Rattle.refusals.specs.Sizes.{mostLeft}
+use Rattle.refusals.specs.Sizes.{most_left}
 use Rattle.laws.specs.Over.{over}
-use Rattle.laws.proofs.Over.{over-length}
-use Rattle.laws.proofs.Buffers.{over-before, over-inside}
+use Rattle.laws.proofs.Over.{over_length}
+use Rattle.laws.proofs.Buffers.{over_before, over_inside}
 use Rattle.laws.proofs.Copying.{Copied, copied_all}
 use Rattle.rules.specs.declared.Rule.{Rule}
-use Rattle.rules.specs.Table.{ruleWords, word_at, ruleAt, words_of, WordsPut}
-use Rattle.rules.proofs.Words.{rule-by-words}
+use Rattle.rules.specs.Table.{rule_words, word_at, rule_at, words_of, WordsPut}
+use Rattle.rules.proofs.Words.{rule_by_words}
 
 -- All words are copied.
 pub words_copied : {x : List ℕ} {at : ℕ} {d d' : List ℕ} {i : ℕ} → Copied d at x d' i → length x ≤ i → WordsPut x at d true d'
 words_copied {x} {at} {d} c h = record { told = rw (le-leb (at + length x) (length d) c.room); table = copied_all c h }
 
 -- There is no room.
-pub put-no-room : {x : List ℕ} {at : ℕ} {d : List ℕ} → length d < at + length x → WordsPut x at d false d
-put-no-room {x} {at} {d} h = record { told = rw (lt-leb (at + length x) (length d) h); table = refl }
+pub put_no_room : {x : List ℕ} {at : ℕ} {d : List ℕ} → length d < at + length x → WordsPut x at d false d
+put_no_room {x} {at} {d} h = record { told = rw (lt-leb (at + length x) (length d) h); table = refl }
 
-pub place-past : {x : List ℕ} {at : ℕ} {d : List ℕ} → length d < at → WordsPut x at d false d
-place-past h = put-no-room (omega arith)
+pub place_past : {x : List ℕ} {at : ℕ} {d : List ℕ} → length d < at → WordsPut x at d false d
+place_past h = put_no_room (omega arith)
 
-pub words-past : {x : List ℕ} {at : ℕ} {d : List ℕ} → at ≤ length d → length d - at < length x → WordsPut x at d false d
-words-past h g = put-no-room (omega arith)
+pub words_past : {x : List ℕ} {at : ℕ} {d : List ℕ} → at ≤ length d → length d - at < length x → WordsPut x at d false d
+words_past h g = put_no_room (omega arith)
 
 -- A put has one result: the answer, and the table.
 pub record SamePut (a b : Bool) (d e : List ℕ) : Type 0 where
   pub answer : a ≡ b
   pub table : d ≡ e
 
-pub words-put-unique : {x : List ℕ} {at : ℕ} {d : List ℕ} {a b : Bool} {d₁ d₂ : List ℕ} → WordsPut x at d a d₁ → WordsPut x at d b d₂ → SamePut a b d₁ d₂
-words-put-unique p q =
+pub words_put_unique : {x : List ℕ} {at : ℕ} {d : List ℕ} {a b : Bool} {d₁ d₂ : List ℕ} → WordsPut x at d a d₁ → WordsPut x at d b d₂ → SamePut a b d₁ d₂
+words_put_unique p q =
     let same = p.told ∙ sym q.told in
     record { answer = same; table = p.table ∙ rw same (sym q.table) }
 
 -- Where there is room, words are put.
-pub put-told : {x : List ℕ} {at : ℕ} {d : List ℕ} {b : Bool} {d' : List ℕ} → WordsPut x at d b d' → at + length x ≤ length d → d' ≡ over d at x
-put-told {x} {at} {d} p h = rw (p.told, le-leb (at + length x) (length d) h) at p.table
+pub put_told : {x : List ℕ} {at : ℕ} {d : List ℕ} {b : Bool} {d' : List ℕ} → WordsPut x at d b d' → at + length x ≤ length d → d' ≡ over d at x
+put_told {x} {at} {d} p h = rw (p.told, le-leb (at + length x) (length d) h) at p.table
 
 -- Eight numbers are the numbers at their places.
-eight : (l : List ℕ) → length l ≡ mostLeft
+eight : (l : List ℕ) → length l ≡ most_left
     → l ≡ get_or l 0 0 ∷ get_or l 1 0 ∷ get_or l 2 0 ∷ get_or l 3 0 ∷ get_or l 4 0 ∷ get_or l 5 0 ∷ get_or l 6 0 ∷ get_or l 7 0 ∷ []
 eight l e = ext_get_or 0 l _ e (λ i h. go i (omega (arith, h)))
   where
-    go : (i : ℕ) → i < mostLeft
+    go : (i : ℕ) → i < most_left
         → get_or l i 0 ≡ get_or (get_or l 0 0 ∷ get_or l 1 0 ∷ get_or l 2 0 ∷ get_or l 3 0 ∷ get_or l 4 0 ∷ get_or l 5 0 ∷ get_or l 6 0 ∷ get_or l 7 0 ∷ []) i 0
     go zero h = refl
     go (suc zero) h = refl
@@ -63,40 +63,40 @@ eight l e = ext_get_or 0 l _ e (λ i h. go i (omega (arith, h)))
     go (suc (suc (suc (suc (suc (suc (suc (suc i)))))))) h = absurd (omega arith)
 
 -- One more rule: its words are put behind r rules.
-module _ (w : List ℕ) (r : ℕ) (x : Rule) (room : r * ruleWords + ruleWords ≤ length w) where
+module _ (w : List ℕ) (r : ℕ) (x : Rule) (room : r * rule_words + rule_words ≤ length w) where
   abbrev pub ruled : List ℕ
-  ruled = over w (r * ruleWords) (words_of x)
+  ruled = over w (r * rule_words) (words_of x)
 
-  pub ruled-length : length ruled ≡ length w
-  ruled-length = over-length w (r * ruleWords) (words_of x) room
+  pub ruled_length : length ruled ≡ length w
+  ruled_length = over_length w (r * rule_words) (words_of x) room
 
-  word-here : (k : ℕ) → k < ruleWords → word_at ruled r k ≡ get_or (words_of x) k 0
+  word_here : (k : ℕ) → k < rule_words → word_at ruled r k ≡ get_or (words_of x) k 0
   unfolding word_at
-  word-here k h = over-inside w (r * ruleWords) (words_of x) room k h
+  word_here k h = over_inside w (r * rule_words) (words_of x) room k h
 
-  word-before : (q : ℕ) → q < r → (k : ℕ) → k < ruleWords → word_at ruled q k ≡ word_at w q k
+  word_before : (q : ℕ) → q < r → (k : ℕ) → k < rule_words → word_at ruled q k ≡ word_at w q k
   unfolding word_at
-  word-before q h k l = over-before w (r * ruleWords) (words_of x) room (q * ruleWords + k) (omega arith)
+  word_before q h k l = over_before w (r * rule_words) (words_of x) room (q * rule_words + k) (omega arith)
 
-  pub ruled-here : length x.left ≡ mostLeft → ruleAt ruled r ≡ x
-  unfolding ruleAt
-  ruled-here e =
+  pub ruled_here : length x.left ≡ most_left → rule_at ruled r ≡ x
+  unfolding rule_at
+  ruled_here e =
       rw (
-        word-here 0 (omega arith),
-        word-here 1 (omega arith),
-        word-here 2 (omega arith),
-        word-here 3 (omega arith),
-        word-here 4 (omega arith),
-        word-here 5 (omega arith),
-        word-here 6 (omega arith),
-        word-here 7 (omega arith),
-        word-here 8 (omega arith),
-        word-here 9 (omega arith),
-        word-here 10 (omega arith),
-        word-here 11 (omega arith),
-        word-here 12 (omega arith),
+        word_here 0 (omega arith),
+        word_here 1 (omega arith),
+        word_here 2 (omega arith),
+        word_here 3 (omega arith),
+        word_here 4 (omega arith),
+        word_here 5 (omega arith),
+        word_here 6 (omega arith),
+        word_here 7 (omega arith),
+        word_here 8 (omega arith),
+        word_here 9 (omega arith),
+        word_here 10 (omega arith),
+        word_here 11 (omega arith),
+        word_here 12 (omega arith),
         ← eight x.left e,
       )
 
-  pub ruled-before : (q : ℕ) → q < r → ruleAt ruled q ≡ ruleAt w q
-  ruled-before q h = rule-by-words ruled w q (word-before q h)
+  pub ruled_before : (q : ℕ) → q < r → rule_at ruled q ≡ rule_at w q
+  ruled_before q h = rule_by_words ruled w q (word_before q h)

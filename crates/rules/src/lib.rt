@@ -2,11 +2,11 @@
 //
 // Nothing here refuses. A reader past the table's end finds zero, and what has no room is not put.
 ghost use Rattle.std.specs.Prelude.{◌≡◌};
-ghost use Rattle.labels.specs.Labels.{labelsIn};
-ghost use Rattle.meaning.specs.Rules.{joinOver};
+ghost use Rattle.labels.specs.Labels.{labels_in};
+ghost use Rattle.meaning.specs.Rules.{join_over};
 ghost use Rattle.meaning.specs.Classes.{classes};
 ghost use Rattle.rules.specs.Record.{left_of};
-ghost use Rattle.rules.specs.Table.{word_at, ruleAt, WordsPut, RulePut};
+ghost use Rattle.rules.specs.Table.{word_at, rule_at, WordsPut, RulePut};
 
 use classes::Class;
 use labels::label_at;
@@ -26,7 +26,7 @@ pub const WORDS: usize = 13;
 pub const WHOLE_TABLE: usize = MOST_RULES * WORDS;
 
 // The head of a book: how many items it has, and how many rules.
-#[derive(Drop)]
+#[derive(Clone, Copy)]
 pub struct Head {
     pub items: usize,
     pub rules: usize,
@@ -34,7 +34,7 @@ pub struct Head {
 
 // One rule. A cap has its item as its one left name; a cap and a floor have a class and no right name, a follow has a right
 // name and no class. What a rule does not use is zero.
-#[derive(Drop)]
+#[derive(Clone, Copy)]
 pub struct Rule {
     pub kind: u64,
     pub count: u64,
@@ -62,7 +62,7 @@ fn word(rules: &[u64], r: usize, k: usize) -> u64
 
 // Rule r of a table.
 pub fn rule_at(rules: &[u64], r: usize) -> Rule
-    ensures { result ≡ ruleAt rules.now r }
+    ensures { result ≡ rule_at rules.now r }
 {
     Rule {
         kind: word(rules, r, 0),
@@ -84,7 +84,7 @@ pub fn rule_at(rules: &[u64], r: usize) -> Rule
 
 // The join of the left labels of a rule.
 pub fn left_join(rule: Rule, levels: &[u64], marks: &[u64]) -> Class
-    ensures { result ≡ joinOver classes (left_of rule) (labelsIn levels.now marks.now) }
+    ensures { result ≡ join_over classes (left_of rule) (labels_in levels.now marks.now) }
 {
     let count = rule.count;
     let mut join = Class::LOWEST;

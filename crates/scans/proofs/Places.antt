@@ -11,8 +11,8 @@ use lib.ListN.{length, get_or, drop, drop_of_length-le}
 use lib.Seq.{drop-cons, get_or-drop}
 use Rattle.scans.specs.Bytes.{byte_at}
 
-pub byte-in : (l : List ℕ) (at : ℕ) → get_or l at 0 ≡ byte_at (drop at l)
-byte-in l at = sym (get_or-drop at l 0 0 ∙ rw add-zero)
+pub byte_in : (l : List ℕ) (at : ℕ) → get_or l at 0 ≡ byte_at (drop at l)
+byte_in l at = sym (get_or-drop at l 0 0 ∙ rw add-zero)
 
 pub byte_past : (l : List ℕ) (at : ℕ) → length l ≤ at → 0 ≡ byte_at (drop at l)
 byte_past l at h = rw (drop_of_length-le l h)
@@ -24,11 +24,11 @@ byte_inside l at h = inside (dec_lt at (length l))
     inside (yes g) = g
     inside (no g) = absurd (omega (arith, byte_past l at (omega arith)))
 
-pub drop-step : (l : List ℕ) (at : ℕ) → at < length l → drop at l ≡ get_or l at 0 ∷ drop (at + 1) l
-drop-step l at h = drop-cons l at 0 h ∙ rw add-one
+pub drop_step : (l : List ℕ) (at : ℕ) → at < length l → drop at l ≡ get_or l at 0 ∷ drop (at + 1) l
+drop_step l at h = drop-cons l at 0 h ∙ rw add-one
 
-pub drop-next : (l : List ℕ) (at n : ℕ) → n < length l - at → drop (at + n) l ≡ get_or l (at + n) 0 ∷ drop (at + (n + 1)) l
-drop-next l at n h = drop-step l (at + n) (omega arith) ∙ rw add_assoc
+pub drop_next : (l : List ℕ) (at n : ℕ) → n < length l - at → drop (at + n) l ≡ get_or l (at + n) 0 ∷ drop (at + (n + 1)) l
+drop_next l at n h = drop_step l (at + n) (omega arith) ∙ rw add_assoc
 
-pub drop-end : (l : List ℕ) (at n : ℕ) → length l - at ≤ n → drop (at + n) l ≡ []
-drop-end l at n h = drop_of_length-le l {i = at + n} (omega arith)
+pub drop_end : (l : List ℕ) (at n : ℕ) → length l - at ≤ n → drop (at + n) l ≡ []
+drop_end l at n h = drop_of_length-le l {i = at + n} (omega arith)

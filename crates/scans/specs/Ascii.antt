@@ -35,11 +35,11 @@ digit9 = 57
 abbrev pub colon : ℕ
 colon = 58
 
-abbrev pub lowerA : ℕ
-lowerA = 97
+abbrev pub lower_a : ℕ
+lower_a = 97
 
-abbrev pub lowerF : ℕ
-lowerF = 102
+abbrev pub lower_f : ℕ
+lower_f = 102
 
-abbrev pub lowerZ : ℕ
-lowerZ = 122
+abbrev pub lower_z : ℕ
+lower_z = 122

@@ -2,7 +2,7 @@
 //
 // Every function takes any place. Past a text's end there is nothing.
 ghost use Rattle.std.specs.Prelude.{◌≡◌, ◌-◌, length, drop};
-ghost use Rattle.scans.specs.Bytes.{byte_at, nameByte, decimalByte, hexByte, kind_of, runLen};
+ghost use Rattle.scans.specs.Bytes.{byte_at, name_byte, decimal_byte, hex_byte, kind_of, run_len};
 
 // The bytes that the crates above name.
 pub const LF: u8 = b'\n';
@@ -26,7 +26,7 @@ pub const DIGIT_9: u8 = b'9';
 pub const COLON: u8 = b':';
 
 // The kinds of bytes that runs are made of: a-z, 0-9 and hyphen; 0-9; 0-9 and a-f.
-#[derive(Drop)]
+#[derive(Clone, Copy)]
 pub enum Kind {
     Name,
     Decimal,
@@ -55,7 +55,7 @@ fn left(s: &[u8], at: usize) -> usize
 
 // Whether a byte is one that names are made of: a-z, 0-9 and hyphen.
 pub fn is_name_byte(b: u8) -> bool
-    ensures { result ≡ nameByte b }
+    ensures { result ≡ name_byte b }
 {
     match b {
         b'a'..=b'z' => true,
@@ -67,7 +67,7 @@ pub fn is_name_byte(b: u8) -> bool
 
 // Whether a byte is a decimal digit.
 fn is_decimal(b: u8) -> bool
-    ensures { result ≡ decimalByte b }
+    ensures { result ≡ decimal_byte b }
 {
     match b {
         b'0'..=b'9' => true,
@@ -77,7 +77,7 @@ fn is_decimal(b: u8) -> bool
 
 // Whether a byte is a lower-case hex digit.
 fn is_hex(b: u8) -> bool
-    ensures { result ≡ hexByte b }
+    ensures { result ≡ hex_byte b }
 {
     match b {
         b'0'..=b'9' => true,
@@ -99,7 +99,7 @@ fn is_of(kind: Kind, b: u8) -> bool
 
 // How many bytes of a kind stand at a place, one after the other.
 pub fn run(kind: Kind, s: &[u8], at: usize) -> usize
-    ensures { result ≡ runLen (kind_of kind) (drop at s.now) }
+    ensures { result ≡ run_len (kind_of kind) (drop at s.now) }
 {
     let most = left(s, at);
     let mut n = 0;

@@ -10,36 +10,36 @@ use lib.Pow.{pow_pos}
 use mir.Syntax.{w8}
 use mir.Val.{Fits}
 use Rattle.classes.specs.Bits.{bit, LowestOne}
-use Rattle.classes.specs.Class.{class_of, joined, commonOf}
+use Rattle.classes.specs.Class.{class_of, joined, common_of}
 use Rattle.classes.specs.declared.Class.{Class}
-use Rattle.classes.proofs.Bits.{bit-ext, bit_high, bit-of-zero}
-use Rattle.solver.specs.Solving.{Buffers, held, labelsOf}
+use Rattle.classes.proofs.Bits.{bit_ext, bit_high, bit_of_zero}
+use Rattle.solver.specs.Solving.{Buffers, held, labels_of}
 use Rattle.solver.specs.InnerSteps.{SameSize}
 use Rattle.solver.specs.InnerBlocks.{HasBit, OneLess}
-use Rattle.solver.specs.InnerBack.{Backable, ItemBackable, FourBackable, backAt, BothAt, Given, Among, AmongFours}
-use Rattle.solver.proofs.Buffers.{same_size, size-trans, room-kept, room-less, stored_here, stored_other}
+use Rattle.solver.specs.InnerBack.{Backable, ItemBackable, FourBackable, back_at, BothAt, Given, Among, AmongFours}
+use Rattle.solver.proofs.Buffers.{same_size, size_trans, room_kept, room_less, stored_here, stored_other}
 
 -- The level of a label given back is below 256, so that a byte holds it.
-back-small : (x y bad : Class) → x.level < 256 → y.level < 256 → (joined x (commonOf y bad)).level < 256
-unfolding joined commonOf
-back-small x y bad s t = omega arith
+back_small : (x y bad : Class) → x.level < 256 → y.level < 256 → (joined x (common_of y bad)).level < 256
+unfolding joined common_of
+back_small x y bad s t = omega arith
 
 -- One item: the code's new label is its label given back, and stands in both buffers.
 module _ {now old : Buffers} {j byte : ℕ} {was is common new : Class} (bad : Class) (able : ItemBackable j now old)
-    (bytes : (i : ℕ) → Fits w8 (get_or now.levels i 0)) (e-was : was ≡ labelsOf old j) (e-is : is ≡ labelsOf now j)
-    (e-common : common ≡ commonOf was bad) (e-new : new ≡ joined is common) (e-byte : byte ≡ new.level % 256) where
-  new-back : new ≡ backAt bad now old j
-  new-back = cc
+    (bytes : (i : ℕ) → Fits w8 (get_or now.levels i 0)) (e_was : was ≡ labels_of old j) (e_is : is ≡ labels_of now j)
+    (e_common : common ≡ common_of was bad) (e_new : new ≡ joined is common) (e_byte : byte ≡ new.level % 256) where
+  new_back : new ≡ back_at bad now old j
+  new_back = cc
 
-  byte-level : byte ≡ new.level
-  byte-level = omega (arith, ap (λ (c : Class). c.level) new-back, back-small (labelsOf now j) (labelsOf old j) bad (bytes j).fits able.small)
+  byte_level : byte ≡ new.level
+  byte_level = omega (arith, ap (λ (c : Class). c.level) new_back, back_small (labels_of now j) (labels_of old j) bad (bytes j).fits able.small)
 
-  pub item-given : Given (Among j (j + 1)) bad now old (held (set now.levels j byte) (set now.marks j new.marks))
+  pub item_given : Given (Among j (j + 1)) bad now old (held (set now.levels j byte) (set now.marks j new.marks))
       (held (set old.levels j new.level) (set old.marks j new.marks))
-  item-given = record {
+  item_given = record {
     here = λ i h. rw (same i h) (
-      stored_here now.levels now.marks j byte _ (omega arith) (omega arith) ∙ ap (λ z. class_of z new.marks) byte-level ∙ new-back,
-      stored_here old.levels old.marks j _ _ (omega arith) (omega arith) ∙ new-back,
+      stored_here now.levels now.marks j byte _ (omega arith) (omega arith) ∙ ap (λ z. class_of z new.marks) byte_level ∙ new_back,
+      stored_here old.levels old.marks j _ _ (omega arith) (omega arith) ∙ new_back,
     );
     other = λ i n. (stored_other now.levels now.marks j _ _ i (λ e. n (omega arith)), stored_other old.levels old.marks j _ _ i (λ e. n (omega arith)));
   }
@@ -55,38 +55,38 @@ record Split (P Q R : ℕ → Type 0) : Type 0 where
   apart : (j : ℕ) → P j → Q j → ⊥
 
 -- Labels given back to the items of P and then to those of Q are given back to those of R.
-given-more : {P Q R : ℕ → Type 0} {bad : Class} {now₀ old₀ now old now' old' : Buffers} → Split P Q R → Given P bad now₀ old₀ now old
+given_more : {P Q R : ℕ → Type 0} {bad : Class} {now₀ old₀ now old now' old' : Buffers} → Split P Q R → Given P bad now₀ old₀ now old
     → Given Q bad now old now' old' → Given R bad now₀ old₀ now' old'
-given-more {P} {Q} {R} {bad} {now₀} {old₀} {now} {old} {now'} {old'} s x y = record {
-  here = λ j r. ⊎_elim (in-first j) (in-second j) (s.either j r);
+given_more {P} {Q} {R} {bad} {now₀} {old₀} {now} {old} {now'} {old'} s x y = record {
+  here = λ j r. ⊎_elim (in_first j) (in_second j) (s.either j r);
   other = λ j n. both (y.other j (λ q. n (s.second j q))) (x.other j (λ p. n (s.first j p)));
 }
   where
     both : {a b c d e f : Class} → (a ≡ b) × (c ≡ d) → (b ≡ e) × (d ≡ f) → (a ≡ e) × (c ≡ f)
     both p q = (p.0 ∙ q.0, p.1 ∙ q.1)
 
-    in-first : (j : ℕ) → P j → BothAt now' old' j (backAt bad now₀ old₀ j) (backAt bad now₀ old₀ j)
-    in-first j p = both (y.other j (s.apart j p)) (x.here j p)
+    in_first : (j : ℕ) → P j → BothAt now' old' j (back_at bad now₀ old₀ j) (back_at bad now₀ old₀ j)
+    in_first j p = both (y.other j (s.apart j p)) (x.here j p)
 
-    in-second : (j : ℕ) → Q j → BothAt now' old' j (backAt bad now₀ old₀ j) (backAt bad now₀ old₀ j)
-    in-second j q =
+    in_second : (j : ℕ) → Q j → BothAt now' old' j (back_at bad now₀ old₀ j) (back_at bad now₀ old₀ j)
+    in_second j q =
         let kept = x.other j (λ p. s.apart j p q) in
-        let same = ap₂ (λ a b. joined a (commonOf b bad)) kept.0 kept.1 in
+        let same = ap₂ (λ a b. joined a (common_of b bad)) kept.0 kept.1 in
         both (y.here j q) (same, same)
 
 -- Two sets of the same items, and no item at all.
-given-same : {P Q : ℕ → Type 0} {bad : Class} {now old now' old' : Buffers} → ((j : ℕ) → P j → Q j) → ((j : ℕ) → Q j → P j)
+given_same : {P Q : ℕ → Type 0} {bad : Class} {now old now' old' : Buffers} → ((j : ℕ) → P j → Q j) → ((j : ℕ) → Q j → P j)
     → Given P bad now old now' old' → Given Q bad now old now' old'
-given-same to back x = record { here = λ j q. x.here j (back j q); other = λ j n. x.other j (λ p. n (to j p)) }
+given_same to back x = record { here = λ j q. x.here j (back j q); other = λ j n. x.other j (λ p. n (to j p)) }
 
-given-none : {P : ℕ → Type 0} {bad : Class} {now old : Buffers} → ((j : ℕ) → P j → ⊥) → Given P bad now old now old
-given-none none = record { here = λ j p. absurd (none j p); other = λ j n. (refl, refl) }
+given_none : {P : ℕ → Type 0} {bad : Class} {now old : Buffers} → ((j : ℕ) → P j → ⊥) → Given P bad now old now old
+given_none none = record { here = λ j p. absurd (none j p); other = λ j n. (refl, refl) }
 
 -- A byte still holds every lent level: each is as it was, or as the working level is.
-pub backable-kept : {n : ℕ} {In : ℕ → Type 0} {bad : Class} {now old now' old' : Buffers} → Backable n now old → Given In bad now old now' old'
+pub backable_kept : {n : ℕ} {In : ℕ → Type 0} {bad : Class} {now old now' old' : Buffers} → Backable n now old → Given In bad now old now' old'
     → SameSize now now' → SameSize old old' → ((i : ℕ) → Fits w8 (get_or now'.levels i 0)) → Backable n now' old'
-backable-kept {n} {In} {bad} {now} {old} {now'} {old'} able x working lent bytes = record {
-  room = record { working = room-kept able.room.working working; lent = room-kept able.room.lent lent };
+backable_kept {n} {In} {bad} {now} {old} {now'} {old'} able x working lent bytes = record {
+  room = record { working = room_kept able.room.working working; lent = room_kept able.room.lent lent };
   small = λ j s. go j s (dec_lt (get_or old'.levels j 0) 256);
 }
   where
@@ -106,17 +106,17 @@ pub record BackSoFar (In : ℕ → Type 0) (n : ℕ) (bad : Class) (now₀ old�
   pub working : SameSize now₀ now
   pub lent : SameSize old₀ old
 
-so-far-none : {P : ℕ → Type 0} {n : ℕ} {bad : Class} {now old : Buffers} → Backable n now old → ((j : ℕ) → P j → ⊥) → BackSoFar P n bad now old now old
-so-far-none {now = now} {old = old} able none = record { given = given-none none; able = able; working = same_size now; lent = same_size old }
+so_far_none : {P : ℕ → Type 0} {n : ℕ} {bad : Class} {now old : Buffers} → Backable n now old → ((j : ℕ) → P j → ⊥) → BackSoFar P n bad now old now old
+so_far_none {now = now} {old = old} able none = record { given = given_none none; able = able; working = same_size now; lent = same_size old }
 
 so_far_more : {P Q R : ℕ → Type 0} {n : ℕ} {bad : Class} {now₀ old₀ now old now' old' : Buffers} → Split P Q R → BackSoFar P n bad now₀ old₀ now old
     → Given Q bad now old now' old' → SameSize now now' → SameSize old old' → ((i : ℕ) → Fits w8 (get_or now'.levels i 0))
     → BackSoFar R n bad now₀ old₀ now' old'
 so_far_more s w x working lent bytes = record {
-  given = given-more s w.given x;
-  able = backable-kept w.able x working lent bytes;
-  working = size-trans w.working working;
-  lent = size-trans w.lent lent;
+  given = given_more s w.given x;
+  able = backable_kept w.able x working lent bytes;
+  working = size_trans w.working working;
+  lent = size_trans w.lent lent;
 }
 
 -- The items of a four, one after the other: given back to those before j.
@@ -126,15 +126,15 @@ pub record ItemsSoFar (n from end j : ℕ) (bad : Class) (now₀ old₀ now old 
   pub after : from ≤ j
   pub within : j ≤ max from end
 
-pub items-none : {n from end : ℕ} {bad : Class} {now old : Buffers} → FourBackable n from now old → end ≡ min (from + 4) n → ItemsSoFar n from end from bad now old now old
-items-none able e = record { back = so-far-none able.all (λ j h. omega arith); ends = e; after = omega arith; within = omega arith }
+pub items_none : {n from end : ℕ} {bad : Class} {now old : Buffers} → FourBackable n from now old → end ≡ min (from + 4) n → ItemsSoFar n from end from bad now old now old
+items_none able e = record { back = so_far_none able.all (λ j h. omega arith); ends = e; after = omega arith; within = omega arith }
 
 module _ {n from end j : ℕ} {bad : Class} {now₀ old₀ now old : Buffers} (w : ItemsSoFar n from end j bad now₀ old₀ now old) where
-  pub items-next : j < end → ItemBackable j now old
-  items-next s = record {
+  pub items_next : j < end → ItemBackable j now old
+  items_next s = record {
     room = record {
-      working = room-less (omega (arith, w.ends)) w.back.able.room.working;
-      lent = room-less (omega (arith, w.ends)) w.back.able.room.lent;
+      working = room_less (omega (arith, w.ends)) w.back.able.room.working;
+      lent = room_less (omega (arith, w.ends)) w.back.able.room.lent;
     };
     small = w.back.able.small j (omega (arith, w.ends));
   }
@@ -156,8 +156,8 @@ module _ {n from end j : ℕ} {bad : Class} {now₀ old₀ now old : Buffers} (w
         apart = λ i p q. omega arith;
       }
 
-  pub items-all : end ≤ j → Given (Among from (min (from + 4) n)) bad now₀ old₀ now old
-  items-all s = given-same (λ i h. (h.0, omega (arith, w.ends, w.within))) (λ i h. (h.0, omega (arith, w.ends))) w.back.given
+  pub items_all : end ≤ j → Given (Among from (min (from + 4) n)) bad now₀ old₀ now old
+  items_all s = given_same (λ i h. (h.0, omega (arith, w.ends, w.within))) (λ i h. (h.0, omega (arith, w.ends))) w.back.given
 
 -- The fours whose bits are in a word, one after the other: given back to the items of those that are no longer in the rest.
 abbrev DoneFours : ℕ → ℕ → ℕ → ℕ → Type 0
@@ -169,27 +169,27 @@ pub record FoursSoFar (n fell rest : ℕ) (bad : Class) (now₀ old₀ now old :
   pub word : fell < 2 ^ 64
   pub less : rest ≤ fell
 
-pub fours-none : {n fell : ℕ} {bad : Class} {now old : Buffers} → Backable n now old → fell < 2 ^ 64 → FoursSoFar n fell fell bad now old now old
-fours-none able s = record { back = so-far-none able (λ j h. omega arith); inside = λ k l o. o; word = s; less = omega arith }
+pub fours_none : {n fell : ℕ} {bad : Class} {now old : Buffers} → Backable n now old → fell < 2 ^ 64 → FoursSoFar n fell fell bad now old now old
+fours_none able s = record { back = so_far_none able (λ j h. omega arith); inside = λ k l o. o; word = s; less = omega arith }
 
 -- A word that is not 0 has its lowest bit.
-lowest-is : {w k : ℕ} → w < 2 ^ 64 → (w ≡ 0 → ⊥) → LowestOne 64 w k → HasBit k w
-lowest-is {w} {k} s some l = go (dec_lt k 64)
+lowest_is : {w k : ℕ} → w < 2 ^ 64 → (w ≡ 0 → ⊥) → LowestOne 64 w k → HasBit k w
+lowest_is {w} {k} s some l = go (dec_lt k 64)
   where
     go : Dec (k < 64) → HasBit k w
     go (yes h) = record { place = h; has = l.one h }
-    go (no h) = absurd (some (bit-ext 64 w 0 s (pow_pos 64) (λ j t. l.zeros j (omega arith) ∙ sym (bit-of-zero j))))
+    go (no h) = absurd (some (bit_ext 64 w 0 s (pow_pos 64) (λ j t. l.zeros j (omega arith) ∙ sym (bit_of_zero j))))
 
 module _ {n fell rest k : ℕ} {bad : Class} {now₀ old₀ now old : Buffers} (w : FoursSoFar n fell rest bad now₀ old₀ now old) (some : rest ≡ 0 → ⊥) (lowest : LowestOne 64 rest k) where
-  pub fours-bit : HasBit k rest
-  fours-bit = lowest-is (omega (arith, w.word, w.less)) some lowest
+  pub fours_bit : HasBit k rest
+  fours_bit = lowest_is (omega (arith, w.word, w.less)) some lowest
 
-  pub fours-next : FourBackable n (k * 4) now old
-  fours-next = record { all = w.back.able; place = omega (arith, fours-bit.place) }
+  pub fours_next : FourBackable n (k * 4) now old
+  fours_next = record { all = w.back.able; place = omega (arith, fours_bit.place) }
 
-  pub fours-more : {rest' : ℕ} {now' old' : Buffers} → Given (Among (k * 4) (min (k * 4 + 4) n)) bad now old now' old' → OneLess k rest rest'
+  pub fours_more : {rest' : ℕ} {now' old' : Buffers} → Given (Among (k * 4) (min (k * 4 + 4) n)) bad now old now' old' → OneLess k rest rest'
       → SameSize now now' → SameSize old old' → ((i : ℕ) → Fits w8 (get_or now'.levels i 0)) → FoursSoFar n fell rest' bad now₀ old₀ now' old'
-  fours-more {rest'} x out working lent bytes = record {
+  fours_more {rest'} x out working lent bytes = record {
     back = so_far_more next w.back x working lent bytes;
     inside = λ j l o. inside' j l o (ℕ_discrete j k);
     word = w.word;
@@ -208,7 +208,7 @@ module _ {n fell rest k : ℕ} {bad : Class} {now₀ old₀ now old : Buffers} (
           go (no l) = absurd (omega (arith, bit_high 64 (j / 4) fell w.word (omega arith)))
 
       left : (j : ℕ) → bit (j / 4) rest ≡ 0 → j / 4 ≡ k → ⊥
-      left j z e = omega (arith, fours-bit.has, ap (λ i. bit i rest) e)
+      left j z e = omega (arith, fours_bit.has, ap (λ i. bit i rest) e)
 
       four : (j : ℕ) → Among (k * 4) (min (k * 4 + 4) n) j → j / 4 ≡ k
       four j h = omega arith
@@ -220,11 +220,11 @@ module _ {n fell rest k : ℕ} {bad : Class} {now₀ old₀ now old : Buffers} (
       next : Split (DoneFours n fell rest) (Among (k * 4) (min (k * 4 + 4) n)) (DoneFours n fell rest')
       next = record {
         first = λ j h. (h.0, out.other (j / 4) (placed j h.0.1) (left j h.1) ∙ h.1);
-        second = λ j h. ((omega arith, rw (four j h) (w.inside k fours-bit.place fours-bit.has)), rw (four j h) out.here);
+        second = λ j h. ((omega arith, rw (four j h) (w.inside k fours_bit.place fours_bit.has)), rw (four j h) out.here);
         either = λ j h. one_of j h (ℕ_discrete (j / 4) k);
         apart = λ j p q. left j p.1 (four j q);
       }
 
-pub fours-all : {n fell rest : ℕ} {bad : Class} {now₀ old₀ now old : Buffers} → FoursSoFar n fell rest bad now₀ old₀ now old → rest ≡ 0
+pub fours_all : {n fell rest : ℕ} {bad : Class} {now₀ old₀ now old : Buffers} → FoursSoFar n fell rest bad now₀ old₀ now old → rest ≡ 0
     → Given (AmongFours n fell) bad now₀ old₀ now old
-fours-all w e = given-same (λ j h. h.0) (λ j h. (h, ap (bit (j / 4)) e ∙ bit-of-zero (j / 4))) w.back.given
+fours_all w e = given_same (λ j h. h.0) (λ j h. (h, ap (bit (j / 4)) e ∙ bit_of_zero (j / 4))) w.back.given

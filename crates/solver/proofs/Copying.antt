@@ -14,8 +14,8 @@ use Rattle.solver.specs.InnerBack.{CopyRoom, Copied}
 use Rattle.solver.proofs.Buffers.{stored_here, stored_other}
 
 -- One word more, whatever is written there.
-kept-none : {before : List ℕ} → RestKept 0 before before
-kept-none = record { sized = refl; rest = λ i s. refl }
+kept_none : {before : List ℕ} → RestKept 0 before before
+kept_none = record { sized = refl; rest = λ i s. refl }
 
 kept_more : {i : ℕ} {before cur : List ℕ} (v : ℕ) → RestKept i before cur → RestKept (i + 1) before (set cur i v)
 kept_more {i} {before} {cur} v w = record {
@@ -30,7 +30,7 @@ pub record CopiedSoFar (n i : ℕ) (now before cur : Buffers) : Type 0 where
 
 pub copied_none : {n : ℕ} {now before : Buffers} → CopiedSoFar n 0 now before before
 copied_none = record {
-  copied = record { levels = kept-none; marks = kept-none; front = λ i s. absurd (not-suc-le-zero s) };
+  copied = record { levels = kept_none; marks = kept_none; front = λ i s. absurd (not-suc-le-zero s) };
   within = omega arith;
 }
 

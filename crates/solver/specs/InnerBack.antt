@@ -2,10 +2,10 @@
 -- Assumes nothing.
 use Rattle.std.specs.Prelude.{◌≡◌, ℕ, ◌+◌, ◌≤◌, ◌<◌, ◌/◌, get_or}
 use Rattle.classes.specs.Bits.{bit}
-use Rattle.classes.specs.Class.{joined, commonOf}
+use Rattle.classes.specs.Class.{joined, common_of}
 use Rattle.classes.specs.declared.Class.{Class}
 use Rattle.labels.specs.Labels.{Room}
-use Rattle.solver.specs.Solving.{Buffers, labelsOf, RestKept}
+use Rattle.solver.specs.Solving.{Buffers, labels_of, RestKept}
 
 -- Room for n labels, working and lent.
 pub record CopyRoom (n : ℕ) (now old : Buffers) : Type 0 where
@@ -16,7 +16,7 @@ pub record CopyRoom (n : ℕ) (now old : Buffers) : Type 0 where
 pub record Copied (n : ℕ) (now before after : Buffers) : Type 0 where
   pub levels : RestKept n before.levels after.levels
   pub marks : RestKept n before.marks after.marks
-  pub front : (i : ℕ) → i < n → labelsOf after i ≡ labelsOf now i
+  pub front : (i : ℕ) → i < n → labels_of after i ≡ labels_of now i
 
 -- What giving back to n items asks: room for their labels, and lent levels that a byte holds.
 pub record Backable (n : ℕ) (now old : Buffers) : Type 0 where
@@ -34,17 +34,17 @@ pub record FourBackable (n from : ℕ) (now old : Buffers) : Type 0 where
   pub place : from < 256
 
 -- The working label with the lent one given back as far as bad reaches.
-abbrev pub backAt : Class → Buffers → Buffers → ℕ → Class
-backAt bad now old j = joined (labelsOf now j) (commonOf (labelsOf old j) bad)
+abbrev pub back_at : Class → Buffers → Buffers → ℕ → Class
+back_at bad now old j = joined (labels_of now j) (common_of (labels_of old j) bad)
 
 -- The working label and the lent label of an item.
 abbrev pub BothAt : Buffers → Buffers → ℕ → Class → Class → Type 0
-BothAt now old j x y = (labelsOf now j ≡ x) × (labelsOf old j ≡ y)
+BothAt now old j x y = (labels_of now j ≡ x) × (labels_of old j ≡ y)
 
 -- Given back at the items of which In holds, and at no others.
 pub record Given (In : ℕ → Type 0) (bad : Class) (now old now' old' : Buffers) : Type 0 where
-  pub here : (j : ℕ) → In j → BothAt now' old' j (backAt bad now old j) (backAt bad now old j)
-  pub other : (j : ℕ) → (In j → ⊥) → BothAt now' old' j (labelsOf now j) (labelsOf old j)
+  pub here : (j : ℕ) → In j → BothAt now' old' j (back_at bad now old j) (back_at bad now old j)
+  pub other : (j : ℕ) → (In j → ⊥) → BothAt now' old' j (labels_of now j) (labels_of old j)
 
 -- From an item on, up to another.
 abbrev pub Among : ℕ → ℕ → ℕ → Type 0

@@ -7,13 +7,13 @@ use Rattle.classes.specs.Bits.{bit}
 use Rattle.solver.specs.declared.blocks.Blocks.{Blocks}
 
 -- The most blocks.
-abbrev pub mostBlocks : ℕ
-mostBlocks = 128
+abbrev pub most_blocks : ℕ
+most_blocks = 128
 
 -- So many blocks of this size hold m rules, and none is needless.
 pub record BlockSize (m size : ℕ) : Type 0 where
-  pub all : m ≤ mostBlocks * size
-  pub few : mostBlocks * size < m + mostBlocks
+  pub all : m ≤ most_blocks * size
+  pub few : most_blocks * size < m + most_blocks
 
 -- w has bit k.
 pub record HasBit (k w : ℕ) : Type 0 where
@@ -32,13 +32,13 @@ pub record OneLess (k w v : ℕ) : Type 0 where
   pub less : v < w
 
 -- 1 if block k is in the set, and else 0: bit k of the low word, or bit k - 64 of the high one.
-unfoldable pub inBlocks : Blocks → ℕ → ℕ
-inBlocks s k = ite (dec_lt k 64) (bit k s.low) (bit (k - 64) s.high)
+unfoldable pub in_blocks : Blocks → ℕ → ℕ
+in_blocks s k = ite (dec_lt k 64) (bit k s.low) (bit (k - 64) s.high)
 
 -- The set has block k.
 pub record HasBlock (s : Blocks) (k : ℕ) : Type 0 where
-  pub block : k < mostBlocks
-  pub has : inBlocks s k ≡ 1
+  pub block : k < most_blocks
+  pub has : in_blocks s k ≡ 1
 
 -- The set is not empty.
 pub record SomeBlock (s : Blocks) : Type 0 where
@@ -51,9 +51,9 @@ pub record TellsEmpty (s : Blocks) (empty : Bool) : Type 0 where
 
 -- r has the blocks of a and those of b.
 pub record Either (a b r : Blocks) : Type 0 where
-  pub each : (k : ℕ) → k < mostBlocks → inBlocks r k ≡ max (inBlocks a k) (inBlocks b k)
+  pub each : (k : ℕ) → k < most_blocks → in_blocks r k ≡ max (in_blocks a k) (in_blocks b k)
 
 -- r is s without its block k.
 pub record OneBlockLess (s : Blocks) (k : ℕ) (r : Blocks) : Type 0 where
-  pub other : (j : ℕ) → j < mostBlocks → (j ≡ k → ⊥) → inBlocks r j ≡ inBlocks s j
+  pub other : (j : ℕ) → j < most_blocks → (j ≡ k → ⊥) → in_blocks r j ≡ in_blocks s j
   pub less : r.low + r.high < s.low + s.high

@@ -3,20 +3,20 @@
 use Rattle.std.specs.Prelude.{◌≡◌, List, [], ◌∷◌, ℕ, ◌≤◌, length, get_or}
 use Rattle.classes.specs.declared.Class.{Class}
 use Rattle.refusals.specs.declared.Fault.{Fault}
-use Rattle.refusals.specs.Said.{Said, success, refusedBy, saidRefusal}
+use Rattle.refusals.specs.Said.{Said, success, refused_by, said_refusal}
 use Rattle.meaning.specs.Labelling.{Wanted}
 use Rattle.meaning.specs.Parts.{Refused}
-use Rattle.meaning.specs.Classes.{classes, classParts}
-use Rattle.labels.specs.Labels.{labelsIn, Room}
+use Rattle.meaning.specs.Classes.{classes, class_parts}
+use Rattle.labels.specs.Labels.{labels_in, Room}
 use Rattle.rules.specs.declared.Head.{Head}
-use Rattle.rules.specs.Table.{bookOf}
+use Rattle.rules.specs.Table.{book_of}
 use Rattle.accepts.specs.Accepted.{TableAccepted}
 use Rattle.solver.specs.declared.Solved.{Solved}
 
 -- What an answer says: the count of the labels that were written, or a refusal.
-abbrev pub saidSolved : Solved → Said
-saidSolved (Solved.Labelled k) = success 0 (k ∷ [])
-saidSolved (Solved.Refused r) = saidRefusal r
+abbrev pub said_solved : Solved → Said
+said_solved (Solved.Labelled k) = success 0 (k ∷ [])
+said_solved (Solved.Refused r) = said_refusal r
 
 -- The lent labels, before and after.
 pub record Buffers : Type 0 where
@@ -26,8 +26,8 @@ pub record Buffers : Type 0 where
 abbrev pub held : List ℕ → List ℕ → Buffers
 held levels marks = record { levels = levels; marks = marks }
 
-abbrev pub labelsOf : Buffers → ℕ → Class
-labelsOf b = labelsIn b.levels b.marks
+abbrev pub labels_of : Buffers → ℕ → Class
+labels_of b = labels_in b.levels b.marks
 
 -- A list of the same length, equal from n on: written from the front, with the rest left.
 pub record RestKept (n : ℕ) (before after : List ℕ) : Type 0 where
@@ -39,7 +39,7 @@ pub record WritesLabels (h : Head) (t : List ℕ) (k : ℕ) (before after : Buff
   pub accepted : TableAccepted h t
   pub room : Room h.items before.levels before.marks
   pub count : k ≡ h.items
-  pub wanted : Wanted classes (bookOf h t) (labelsOf after)
+  pub wanted : Wanted classes (book_of h t) (labels_of after)
   pub levels : RestKept h.items before.levels after.levels
   pub marks : RestKept h.items before.marks after.marks
 
@@ -55,12 +55,12 @@ pub record RefusesRoom (h : Head) (t : List ℕ) (before after : Buffers) : Type
 pub record RefusesBook (h : Head) (t : List ℕ) (p : ℕ) (before after : Buffers) : Type 0 where
   pub accepted : TableAccepted h t
   pub room : Room h.items before.levels before.marks
-  pub unlabelled : Refused classParts (bookOf h t) p
+  pub unlabelled : Refused class_parts (book_of h t) p
   pub untouched : after ≡ before
 
 -- "Solving: 10, 11, 9", with the place of each refusal, and what the buffers then hold.
 pub data SolveSays (h : Head) (t : List ℕ) (before : Buffers) : Said → Buffers → Type 0 where
-  bad-table : {after : Buffers} → RefusesTable h t before after → SolveSays h t before (refusedBy Fault.BadTable 0) after
-  no_room : {after : Buffers} → RefusesRoom h t before after → SolveSays h t before (refusedBy Fault.NoRoom 0) after
-  no-labelling : {p : ℕ} {after : Buffers} → RefusesBook h t p before after → SolveSays h t before (refusedBy Fault.NoLabelling p) after
-  writes-labels : {k : ℕ} {after : Buffers} → WritesLabels h t k before after → SolveSays h t before (success 0 (k ∷ [])) after
+  bad_table : {after : Buffers} → RefusesTable h t before after → SolveSays h t before (refused_by Fault.BadTable 0) after
+  no_room : {after : Buffers} → RefusesRoom h t before after → SolveSays h t before (refused_by Fault.NoRoom 0) after
+  has_no_labelling : {p : ℕ} {after : Buffers} → RefusesBook h t p before after → SolveSays h t before (refused_by Fault.NoLabelling p) after
+  writes_labels : {k : ℕ} {after : Buffers} → WritesLabels h t k before after → SolveSays h t before (success 0 (k ∷ [])) after

@@ -1,6 +1,6 @@
 // Sets: bits of a word, and sets of blocks of rules, of which there are at most 128.
 ghost use Rattle.std.specs.Prelude.{◌<◌};
-ghost use Rattle.solver.specs.InnerBlocks.{mostBlocks, BlockSize, HasBit, OneBit, OneLess, HasBlock, SomeBlock, Either, OneBlockLess};
+ghost use Rattle.solver.specs.InnerBlocks.{most_blocks, BlockSize, HasBit, OneBit, OneLess, HasBlock, SomeBlock, Either, OneBlockLess};
 
 use classes::lowest_mark;
 
@@ -8,7 +8,7 @@ use classes::lowest_mark;
 pub(crate) const MOST_BLOCKS: usize = 128;
 
 // A set of blocks: bit k of `low` is block k, and bit k of `high` is block 64 + k.
-#[derive(Drop)]
+#[derive(Clone, Copy)]
 pub(crate) struct Blocks {
     pub low: u64,
     pub high: u64,
@@ -42,7 +42,7 @@ pub(crate) fn without_bit(word: u64, k: usize) -> u64
 
 // A set that has block k.
 pub(crate) fn one_block(k: usize) -> Blocks
-    requires { k < mostBlocks }
+    requires { k < most_blocks }
     ensures { HasBlock result k }
 {
     if k < 64 {

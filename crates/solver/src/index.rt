@@ -1,7 +1,7 @@
 // The index: for each item the blocks whose rules have it on their left. A cap looks at no other label, so that it is left out.
 ghost use Rattle.std.specs.Prelude.{◌≡◌, ◌+◌, ◌*◌, ◌^◌, ◌<◌, length};
-ghost use Rattle.refusals.specs.Sizes.{mostItems};
-ghost use Rattle.solver.specs.InnerIndex.{usersAt, AddsUsers, RuleIndexable, IndexesRule, EndsBlock, BlockIndexable, IndexesBlock, Indexable, Watches};
+ghost use Rattle.refusals.specs.Sizes.{most_items};
+ghost use Rattle.solver.specs.InnerIndex.{users_at, AddsUsers, RuleIndexable, IndexesRule, EndsBlock, BlockIndexable, IndexesBlock, Indexable, Watches};
 
 use super::blocks::{Blocks, MOST_BLOCKS, one_block};
 use refusals::{MOST_ITEMS, MOST_LEFT};
@@ -12,8 +12,8 @@ pub(crate) const INDEX_WORDS: usize = 2 * MOST_ITEMS;
 
 // The blocks that the index has for item i.
 pub(crate) fn users_of(users: &[u64], i: usize) -> Blocks
-    requires { mostItems + i < length users.now }
-    ensures { result ≡ usersAt users.now i }
+    requires { most_items + i < length users.now }
+    ensures { result ≡ users_at users.now i }
 {
     Blocks {
         low: users[i],
@@ -23,7 +23,7 @@ pub(crate) fn users_of(users: &[u64], i: usize) -> Blocks
 
 // Adds a set of blocks to those of item i.
 fn add_users(users: &mut [u64], i: usize, b: Blocks)
-    requires { mostItems + i < length users.old }
+    requires { most_items + i < length users.old }
     ensures { AddsUsers i b users.old users.new }
 {
     users[i] = users[i] | b.low;

@@ -7,7 +7,7 @@ mod settle;
 mod working;
 
 // What solving answers: the count of the labels that were written, or a refusal.
-#[derive(Drop)]
+#[derive(Clone, Copy)]
 pub enum Solved {
     Labelled(usize),
     Refused(Refusal),

@@ -1,13 +1,13 @@
 // Settling: labels are lowered until every cap and every follow is met, and what floors ask in vain is set aside. An item that
 // falls wakes the blocks whose rules have it on their left, and no others.
 ghost use Rattle.std.specs.Prelude.{◌≡◌, ◌+◌, ◌<◌, length};
-ghost use Rattle.refusals.specs.Sizes.{mostItems};
+ghost use Rattle.refusals.specs.Sizes.{most_items};
 ghost use Rattle.rules.specs.Record.{left_of};
-ghost use Rattle.rules.specs.Table.{ruleAt};
-ghost use Rattle.solver.specs.Solving.{held, labelsOf};
-ghost use Rattle.solver.specs.InnerSteps.{meantAt};
+ghost use Rattle.rules.specs.Table.{rule_at};
+ghost use Rattle.solver.specs.Solving.{held, labels_of};
+ghost use Rattle.solver.specs.InnerSteps.{meant_at};
 ghost use Rattle.solver.specs.InnerBlocks.{TellsEmpty};
-ghost use Rattle.solver.specs.InnerSettles.{RuleReadable, KindKnown, LeftUsable, Bounding, item_of, goalOf, LeftBound, RuleBound, Asked, GoesOn, Wakeable, Fallable, Woken, Fell, Lacks, Visits, Visitable, Settleable, TurnAsks, Turns, Settles};
+ghost use Rattle.solver.specs.InnerSettles.{RuleReadable, KindKnown, LeftUsable, Bounding, item_of, goal_of, LeftBound, RuleBound, Asked, GoesOn, Wakeable, Fallable, Woken, Fell, Lacks, Visits, Visitable, Settleable, TurnAsks, Turns, Settles};
 
 use super::blocks::{Blocks, either, first_block, one_bit, without_block};
 use super::index::{block_end, users_of};
@@ -17,7 +17,7 @@ use refusals::MOST_LEFT;
 use rules::{CAP, FLOOR, Head, WORDS};
 
 // How far settling has come: what cannot be met, the blocks whose rules are to be looked at, and the items that fell, by fours.
-#[derive(Drop)]
+#[derive(Clone, Copy)]
 pub(crate) struct Settling {
     pub bad: Class,
     pub pending: Blocks,
@@ -54,7 +54,7 @@ fn left_bound(
     marks: &[u64],
 ) -> Class
     requires { LeftUsable rules.now r (held levels.now marks.now) }
-    ensures { LeftBound (left_of (ruleAt rules.now r)) (labelsOf (held levels.now marks.now)) bad goal result }
+    ensures { LeftBound (left_of (rule_at rules.now r)) (labels_of (held levels.now marks.now)) bad goal result }
 {
     let at = r * WORDS;
     let count = rules[at + 1];
@@ -77,7 +77,7 @@ fn left_bound(
 // The item that rule r bounds from above: that of a cap, or the right one of a follow.
 fn bounded_item(rules: &[u64], r: usize, kind: u64) -> usize
     requires { Bounding rules.now r kind }
-    ensures { result ≡ item_of (meantAt rules.now r) }
+    ensures { result ≡ item_of (meant_at rules.now r) }
 {
     let at = r * WORDS;
     if kind == CAP {
@@ -89,7 +89,7 @@ fn bounded_item(rules: &[u64], r: usize, kind: u64) -> usize
 // The class that stands in rule r.
 fn class_at(rules: &[u64], r: usize) -> Class
     requires { RuleReadable rules.now r }
-    ensures { result ≡ (ruleAt rules.now r).class }
+    ensures { result ≡ (rule_at rules.now r).class }
 {
     let at = r * WORDS;
     Class::new(rules[at + 11], rules[at + 12])
@@ -98,7 +98,7 @@ fn class_at(rules: &[u64], r: usize) -> Class
 // What rule r wants covered: the class of a floor, the label of the item that a cap or a follow bounds.
 fn goal_at(rules: &[u64], r: usize, kind: u64, levels: &[u8], marks: &[u64]) -> Class
     requires { KindKnown rules.now r kind (held levels.now marks.now) }
-    ensures { result ≡ goalOf (meantAt rules.now r) (labelsOf (held levels.now marks.now)) }
+    ensures { result ≡ goal_of (meant_at rules.now r) (labels_of (held levels.now marks.now)) }
 {
     if kind == FLOOR {
         return class_at(rules, r);
@@ -117,7 +117,7 @@ fn bound_at(
     marks: &[u64],
 ) -> Class
     requires { KindKnown rules.now r kind (held levels.now marks.now) }
-    ensures { RuleBound (meantAt rules.now r) (labelsOf (held levels.now marks.now)) bad goal result }
+    ensures { RuleBound (meant_at rules.now r) (labels_of (held levels.now marks.now)) bad goal result }
 {
     if kind == CAP {
         return class_at(rules, r);
@@ -189,7 +189,7 @@ fn visit(
     s: Settling,
 ) -> Settling
     requires { Visitable rules.now r users.now (held levels.old marks.old) }
-    ensures { Visits (meantAt rules.now r) users.now (held levels.old marks.old) s (held levels.new marks.new) result }
+    ensures { Visits (meant_at rules.now r) users.now (held levels.old marks.old) s (held levels.new marks.new) result }
 {
     let kind = rules[r * WORDS];
     let bad = s.bad;

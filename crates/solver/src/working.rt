@@ -1,6 +1,6 @@
 // The working labels, a byte for a level and a word for marks, beside the lent ones, which are the labels reached so far.
 ghost use Rattle.std.specs.Prelude.{◌≡◌, ◌+◌, ◌%◌, min};
-ghost use Rattle.labels.specs.Labels.{Room, labelsIn};
+ghost use Rattle.labels.specs.Labels.{Room, labels_in};
 ghost use Rattle.solver.specs.Solving.{held};
 ghost use Rattle.solver.specs.InnerBack.{CopyRoom, Copied, Backable, ItemBackable, FourBackable, Given, Among, AmongFours};
 
@@ -24,7 +24,7 @@ pub(crate) fn narrow(level: u64) -> u8
 // The working label of item i.
 pub(crate) fn working_at(levels: &[u8], marks: &[u64], i: usize) -> Class
     requires { Room (i + 1) levels.now marks.now }
-    ensures { result ≡ labelsIn levels.now marks.now i }
+    ensures { result ≡ labels_in levels.now marks.now i }
 {
     Class::new(wide(levels[i]), marks[i])
 }

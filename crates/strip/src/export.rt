@@ -19,7 +19,7 @@ use stripping::{Stripped, strip};
 const ROOM_OUT: usize = MOST_TEXT + LINE_END;
 
 // Where a run stands: how many bytes are held, whether the input has ended, the number of the next record, and whether to go on.
-#[derive(Drop)]
+#[derive(Clone, Copy)]
 struct Place {
     have: usize,
     last: bool,

@@ -4,7 +4,7 @@ ghost use Rattle.std.specs.Prelude.{◌<◌, ◌≤◌, length};
 use libc::STDIN_FILENO;
 
 // How many bytes a buffer holds, whether the input has ended, and whether reading failed.
-#[derive(Drop)]
+#[derive(Clone, Copy)]
 pub(crate) struct Input {
     pub(crate) have: usize,
     pub(crate) last: bool,

@@ -6,30 +6,30 @@ use mathlib.Core.List.{List}
 use Prim.Native.Nat.{ℕ}
 use lib.ListN.{get_or}
 use Rattle.refusals.specs.Said.{Said, success, refused}
-use Rattle.refusals.proofs.Said.{said-injective, refusalOf, refusal-back}
-use Rattle.stripping.specs.Stripping.{saidStripped, StripSays, made_of, outAfter}
+use Rattle.refusals.proofs.Said.{said_injective, refusal_of, refusal_back}
+use Rattle.stripping.specs.Stripping.{said_stripped, StripSays, made_of, out_after}
 use Rattle.stripping.specs.declared.Stripped.{Stripped}
 
 -- The answer that says this.
-abbrev strippedOf : Said → Stripped
-strippedOf (success c l) = Stripped.Text (record { used = get_or l 0 0; len = get_or l 1 0; records = get_or l 2 0 })
-strippedOf (refused n p) = Stripped.Refused (refusalOf n p)
+abbrev stripped_of : Said → Stripped
+stripped_of (success c l) = Stripped.Text (record { used = get_or l 0 0; len = get_or l 1 0; records = get_or l 2 0 })
+stripped_of (refused n p) = Stripped.Refused (refusal_of n p)
 
-stripped-back : (r : Stripped) → strippedOf (saidStripped r) ≡ r
-stripped-back (Stripped.Text c) = refl
-stripped-back (Stripped.Refused r) = ap Stripped.Refused (refusal-back r)
+stripped_back : (r : Stripped) → stripped_of (said_stripped r) ≡ r
+stripped_back (Stripped.Text c) = refl
+stripped_back (Stripped.Refused r) = ap Stripped.Refused (refusal_back r)
 
 -- The same answer, and the same content of the buffer.
 pub record SameStripped (r s : Stripped) (a b : List ℕ) : Type 0 where
   pub answer : r ≡ s
   pub buffer : a ≡ b
 
-pub strip-unique : {l : List ℕ} {last : Bool} {kept : List Bool} {number : ℕ} {out : List ℕ} {r s : Stripped} {a b : List ℕ}
-    → StripSays l last kept number out (saidStripped r) a → StripSays l last kept number out (saidStripped s) b → SameStripped r s a b
-strip-unique {l} {last} {kept} {out = out} {r} {s} {a} {b} p q = record {
-  answer = said-injective saidStripped strippedOf stripped-back said;
-  buffer = p.out-after ∙ ap (λ (x : Said). outAfter x (made_of l last kept) out) said ∙ sym q.out-after;
+pub strip_unique : {l : List ℕ} {last : Bool} {kept : List Bool} {number : ℕ} {out : List ℕ} {r s : Stripped} {a b : List ℕ}
+    → StripSays l last kept number out (said_stripped r) a → StripSays l last kept number out (said_stripped s) b → SameStripped r s a b
+strip_unique {l} {last} {kept} {out = out} {r} {s} {a} {b} p q = record {
+  answer = said_injective said_stripped stripped_of stripped_back said;
+  buffer = p.out_is ∙ ap (λ (x : Said). out_after x (made_of l last kept) out) said ∙ sym q.out_is;
 }
   where
-    said : saidStripped r ≡ saidStripped s
+    said : said_stripped r ≡ said_stripped s
     said = p.answer ∙ sym q.answer

@@ -2,8 +2,8 @@
 mod row;
 
 ghost use Rattle.std.specs.Prelude.{◌≡◌, ◌&&◌, eqb};
-ghost use Rattle.stripping.specs.Stripping.{saidStripped, StripSays};
-ghost use Rattle.stripping.specs.Inner.{FrontSays, TakeReady, ShortReady, fittedSize, isBad};
+ghost use Rattle.stripping.specs.Stripping.{said_stripped, StripSays};
+ghost use Rattle.stripping.specs.Inner.{FrontSays, TakeReady, ShortReady, fitted_size, is_bad};
 
 use puts::put;
 use records::{LINE_END, MOST_FIELDS, Size, read_row};
@@ -14,7 +14,7 @@ use row::put_row;
 const MOST_MADE: usize = MOST_TEXT + LINE_END;
 
 // What was cut from the front of a text: how many bytes of it were taken, how many were written, and of how many records.
-#[derive(Drop)]
+#[derive(Clone, Copy)]
 pub struct Cut {
     pub used: usize,
     pub len: usize,
@@ -22,7 +22,7 @@ pub struct Cut {
 }
 
 // What stripping answers: what was cut, or a refusal.
-#[derive(Drop)]
+#[derive(Clone, Copy)]
 pub enum Stripped {
     Text(Cut),
     Refused(Refusal),
@@ -32,7 +32,7 @@ pub enum Stripped {
 // this number, is bad; NoRoom at 0 where `out` is shorter than what is written. Else the whole records at the front of the text, up to a bad one, with
 // only the columns that are kept. Nothing follows the text if it is the last one.
 pub fn strip(text: &[u8], last: bool, kept: &[bool], number: u64, out: &mut [u8]) -> Stripped
-    ensures { StripSays text.now last kept.now number out.old (saidStripped result) out.new }
+    ensures { StripSays text.now last kept.now number out.old (said_stripped result) out.new }
 {
     if MOST_TEXT < text.len() {
         return refused(Fault::TooLong, 0);
@@ -62,7 +62,7 @@ fn refused(fault: Fault, place: u64) -> Stripped
 // The same where `out` may be shorter than what is written: that is made elsewhere first.
 fn strip_short(text: &[u8], last: bool, kept: &[bool], number: u64, out: &mut [u8]) -> Stripped
     requires { ShortReady text.now kept.now }
-    ensures { StripSays text.now last kept.now number out.old (saidStripped result) out.new }
+    ensures { StripSays text.now last kept.now number out.old (said_stripped result) out.new }
 {
     let mut made = [0u8; MOST_MADE];
     let front = take(text, last, kept, &mut made);
@@ -79,7 +79,7 @@ fn strip_short(text: &[u8], last: bool, kept: &[bool], number: u64, out: &mut [u
 }
 
 // What was cut from the front of a text. It is refused where the first record is bad.
-#[derive(Drop)]
+#[derive(Clone, Copy)]
 struct Front {
     cut: Cut,
     refused: bool,
@@ -122,7 +122,7 @@ fn take(text: &[u8], last: bool, kept: &[bool], out: &mut [u8]) -> Front
 
 // A record by the number of columns: one with another number of fields is bad.
 fn fitted(found: Size, columns: usize) -> Size
-    ensures { result ≡ fittedSize columns found }
+    ensures { result ≡ fitted_size columns found }
 {
     match found {
         Size::Whole(row) => if row.fields == columns {
@@ -137,7 +137,7 @@ fn fitted(found: Size, columns: usize) -> Size
 
 // Whether a record that is not whole is refused: it is bad, and none was taken before it.
 fn refuses(found: Size, records: usize) -> bool
-    ensures { result ≡ (eqb records 0 && isBad found) }
+    ensures { result ≡ (eqb records 0 && is_bad found) }
 {
     if records != 0 {
         return false;

@@ -1,6 +1,6 @@
 // The line of one record: the kept fields with commas between them. Each field is handed back as a part of the record.
 ghost use Rattle.std.specs.Prelude.{length};
-ghost use Rattle.records.specs.Rows.{nthField};
+ghost use Rattle.records.specs.Rows.{nth_field};
 ghost use Rattle.stripping.specs.Inner.{PutReady, RowPut, KeepReady, Keeps, EndReady, EndsLine};
 
 use puts::put;
@@ -38,8 +38,8 @@ fn keep(
     out: &mut [u8],
     to: usize,
 ) -> usize
-    requires { KeepReady (nthField text.now at ends.now c) out.old to }
-    ensures { Keeps (nthField text.now at ends.now c) kept out.old to result out.new }
+    requires { KeepReady (nth_field text.now at ends.now c) out.old to }
+    ensures { Keeps (nth_field text.now at ends.now c) kept out.old to result out.new }
 {
     if !kept {
         return to;

@@ -13,109 +13,109 @@ use lib.Dec.{ltb, eqb}
 use lib.ListN.{length, take, drop, replicate, get_or-append, length-append, length-drop}
 use lib.Seq.{length-take-le, get_or-take, take_at, drop_at, take-add, drop-cons, drop-drop, get_or-drop}
 use borrow.Author.Tests.{lt-ltb, le-ltb, eq-eqb, ne_eqb, ltb-false, eqb-true}
-use Rattle.laws.proofs.Bools.{true-not-false}
-use Rattle.classes.specs.Class.{topLevel, class_of, IsClass, lowest, highest}
+use Rattle.laws.proofs.Bools.{true_not_false}
+use Rattle.classes.specs.Class.{top_level, class_of, IsClass, lowest, highest}
 use Rattle.classes.specs.declared.Class.{Class}
-use Rattle.items.specs.Names.{nameRoom, isName}
-use Rattle.items.proofs.Names.{spelled-name, name-spelled}
-use Rattle.scans.specs.Ascii.{slash, digit0, lowerF}
-use Rattle.scans.specs.Bytes.{byte_at, nameByte, decimalByte, hexByte, runLen}
-use Rattle.scans.proofs.Runs.{run-no, run-le, run_at, run-all, run-append, run_take}
-use Rattle.tokens.specs.Numbers.{digit, value_of, digitsOf, countDigits, decimalLen, decimalOf}
-use Rattle.tokens.specs.Tokens.{nameOfRun, name_at, leadingZero, countFound, decimalOfRun, decimalAt, countAt, countText, levelDigits, markDigits, behindLevel, classFound, classAfter, class_at, classText}
+use Rattle.items.specs.Names.{name_room, is_name}
+use Rattle.items.proofs.Names.{spelled_name, name_spelled}
+use Rattle.scans.specs.Ascii.{slash, digit0, lower_f}
+use Rattle.scans.specs.Bytes.{byte_at, name_byte, decimal_byte, hex_byte, run_len}
+use Rattle.scans.proofs.Runs.{run_no, run_le, run_at, run_all, run_append, run_take}
+use Rattle.tokens.specs.Numbers.{digit, value_of, digits_of, count_digits, decimal_len, decimal_of}
+use Rattle.tokens.specs.Tokens.{name_of_run, name_at, leading_zero, count_found, decimal_of_run, decimal_at, count_at, count_text, level_digits, mark_digits, behind_level, class_found, class_after, class_at, class_text}
 use Rattle.tokens.specs.declared.Number.{Number}
 use Rattle.tokens.specs.declared.ClassToken.{ClassToken}
 use Rattle.tokens.specs.declared.ReadName.{ReadName}
 use Rattle.tokens.specs.declared.ReadCount.{ReadCount}
 use Rattle.tokens.specs.declared.ReadClass.{ReadClass}
-use Rattle.tokens.proofs.Values.{DecimalLen, decimal, hex, digits-length, digits-run, value-digits, digits_value, value-fits, high-first, first-high, decimal-len, decimal-has, decimal-short}
+use Rattle.tokens.proofs.Values.{DecimalLen, decimal, hex, digits_length, digits_run, value_digits, digits_value, value_fits, high_first, first_high, decimal_len_lem, decimal_has, decimal_short}
 
 -- Names. What a name's length says: the bytes are a name.
 pub record NameHere (l : List ℕ) (n : ℕ) : Type 0 where
   pub within : n ≤ length l
-  pub name : isName (take n l) ≡ true
+  pub name : is_name (take n l) ≡ true
 
 abbrev pub NameSays : List ℕ → ReadName → Type 0
 NameSays l (ReadName.Found n) = NameHere l n
 NameSays l ReadName.Bad = Unit
 
-pub name-says : (l : List ℕ) → NameSays l (name_at l)
-unfolding nameOfRun
-name-says l = says (ltb n 1) refl (ltb nameRoom n) refl
+pub name_says : (l : List ℕ) → NameSays l (name_at l)
+unfolding name_of_run
+name_says l = says (ltb n 1) refl (ltb name_room n) refl
   where
     n : ℕ
-    n = runLen nameByte l
+    n = run_len name_byte l
 
-    says : (a : Bool) → ltb n 1 ≡ a → (b : Bool) → ltb nameRoom n ≡ b → NameSays l (cond a ReadName.Bad (cond b ReadName.Bad (ReadName.Found n)))
+    says : (a : Bool) → ltb n 1 ≡ a → (b : Bool) → ltb name_room n ≡ b → NameSays l (cond a ReadName.Bad (cond b ReadName.Bad (ReadName.Found n)))
     says true d b e = tt
     says false d true e = tt
     says false d false e = record {
-      within = run-le nameByte l;
+      within = run_le name_byte l;
       name =
-          spelled-name
+          spelled_name
           (record {
             least = rw long (ltb-false n 1 d);
-            most = rw long (ltb-false nameRoom n e);
-            bytes = λ k h. rw (get_or-take n l k 0 (rw long at h)) (run_at nameByte l k (rw long at h));
+            most = rw long (ltb-false name_room n e);
+            bytes = λ k h. rw (get_or-take n l k 0 (rw long at h)) (run_at name_byte l k (rw long at h));
           });
     }
       where
         long : length (take n l) ≡ n
-        long = length-take-le n l (run-le nameByte l)
+        long = length-take-le n l (run_le name_byte l)
 
 -- What is read is a name.
-pub name-is-name : (l : List ℕ) (n : ℕ) → name_at l ≡ ReadName.Found n → NameHere l n
-name-is-name l n e = subst (NameSays l) e (name-says l)
+pub name_is_name : (l : List ℕ) (n : ℕ) → name_at l ≡ ReadName.Found n → NameHere l n
+name_is_name l n e = subst (NameSays l) e (name_says l)
 
 -- A name reads back where what follows it begins with no byte of a name.
-pub name-reads : (x rest : List ℕ) → isName x ≡ true → runLen nameByte rest ≡ 0 → name_at (x ++ rest) ≡ ReadName.Found (length x)
-unfolding nameOfRun
-name-reads x rest e z =
-    let s = name-spelled x e in
-    let n : runLen nameByte (x ++ rest) ≡ length x = omega (arith, run-append nameByte x rest (run-all nameByte x s.bytes)) in
-    rw (n, le-ltb (length x) 1 s.least, le-ltb nameRoom (length x) s.most)
+pub name_reads : (x rest : List ℕ) → is_name x ≡ true → run_len name_byte rest ≡ 0 → name_at (x ++ rest) ≡ ReadName.Found (length x)
+unfolding name_of_run
+name_reads x rest e z =
+    let s = name_spelled x e in
+    let n : run_len name_byte (x ++ rest) ≡ length x = omega (arith, run_append name_byte x rest (run_all name_byte x s.bytes)) in
+    rw (n, le-ltb (length x) 1 s.least, le-ltb name_room (length x) s.most)
 
 -- Numbers in decimal. What a number says: its digits are those that would be written.
 pub record DecimalHere (most : ℕ) (l : List ℕ) (x : Number) : Type 0 where
   pub within : x.len ≤ length l
   pub short : x.len ≤ most
   pub digits : DecimalLen x.value x.len
-  pub text : take x.len l ≡ decimalOf x.value
+  pub text : take x.len l ≡ decimal_of x.value
 
 abbrev pub DecimalSays : ℕ → List ℕ → ReadCount → Type 0
 DecimalSays most l (ReadCount.Found x) = DecimalHere most l x
 DecimalSays most l ReadCount.Bad = Unit
 
-leading-zero : (l : List ℕ) (n : ℕ) → leadingZero l n ≡ false → 1 < n → byte_at l ≡ digit0 → ⊥
-unfolding leadingZero
-leading-zero l n e h z = true-not-false (rw (lt-ltb 1 n h, eq-eqb (byte_at l) digit0 z)) e
+leading_zero_lem : (l : List ℕ) (n : ℕ) → leading_zero l n ≡ false → 1 < n → byte_at l ≡ digit0 → ⊥
+unfolding leading_zero
+leading_zero_lem l n e h z = true_not_false (rw (lt-ltb 1 n h, eq-eqb (byte_at l) digit0 z)) e
 
-pub decimal-says : (most : ℕ) (l : List ℕ) → most ≤ countDigits → DecimalSays most l (decimalAt most l)
-unfolding decimalOfRun
-decimal-says most l m = says (ltb n 1) refl (ltb most n) refl (leadingZero l n) refl
+pub decimal_says : (most : ℕ) (l : List ℕ) → most ≤ count_digits → DecimalSays most l (decimal_at most l)
+unfolding decimal_of_run
+decimal_says most l m = says (ltb n 1) refl (ltb most n) refl (leading_zero l n) refl
   where
     n : ℕ
-    n = runLen decimalByte l
+    n = run_len decimal_byte l
 
     x : List ℕ
     x = take n l
 
     long : length x ≡ n
-    long = length-take-le n l (run-le decimalByte l)
+    long = length-take-le n l (run_le decimal_byte l)
 
-    all : runLen decimalByte x ≡ length x
-    all = run_take decimalByte l n (le_refl n) ∙ sym long
+    all : run_len decimal_byte x ≡ length x
+    all = run_take decimal_byte l n (le_refl n) ∙ sym long
 
-    says : (a : Bool) → ltb n 1 ≡ a → (b : Bool) → ltb most n ≡ b → (c : Bool) → leadingZero l n ≡ c
-        → DecimalSays most l (cond a ReadCount.Bad (cond b ReadCount.Bad (cond c ReadCount.Bad (countFound (value_of 10 x) n))))
+    says : (a : Bool) → ltb n 1 ≡ a → (b : Bool) → ltb most n ≡ b → (c : Bool) → leading_zero l n ≡ c
+        → DecimalSays most l (cond a ReadCount.Bad (cond b ReadCount.Bad (cond c ReadCount.Bad (count_found (value_of 10 x) n))))
     says true d b e c f = tt
     says false d true e c f = tt
     says false d false e true f = tt
     says false d false e false f = record {
-      within = run-le decimalByte l;
+      within = run_le decimal_byte l;
       short = ltb-false most n e;
       digits = digits;
-      text = sym (digits_value decimal x all) ∙ ap (λ (k : ℕ). digitsOf 10 k (value_of 10 x)) (long ∙ sym (decimal-len n (value_of 10 x) digits));
+      text = sym (digits_value decimal x all) ∙ ap (λ (k : ℕ). digits_of 10 k (value_of 10 x)) (long ∙ sym (decimal_len_lem n (value_of 10 x) digits));
     }
       where
         first : byte_at x ≡ byte_at l
@@ -125,38 +125,38 @@ decimal-says most l m = says (ltb n 1) refl (ltb most n) refl (leadingZero l n) 
         digits = record {
           least = ltb-false n 1 d;
           most = omega (arith, ltb-false most n e);
-          below = rw long at (value-fits decimal x all);
-          above = λ h. rw long at (high-first decimal x all (rw long h) (λ z. leading-zero l n f h (sym first ∙ z)));
+          below = rw long at (value_fits decimal x all);
+          above = λ h. rw long at (high_first decimal x all (rw long h) (λ z. leading_zero_lem l n f h (sym first ∙ z)));
         }
 
 -- What is read is what would be written.
-pub decimal-is-text : (most : ℕ) (l : List ℕ) (x : Number) → most ≤ countDigits → decimalAt most l ≡ ReadCount.Found x → DecimalHere most l x
-decimal-is-text most l x m e = subst (DecimalSays most l) e (decimal-says most l m)
+pub decimal_is_text : (most : ℕ) (l : List ℕ) (x : Number) → most ≤ count_digits → decimal_at most l ≡ ReadCount.Found x → DecimalHere most l x
+decimal_is_text most l x m e = subst (DecimalSays most l) e (decimal_says most l m)
 
 -- What is written reads back where what follows it begins with no digit.
-pub decimal-reads : (most v : ℕ) (rest : List ℕ) → v < 10 ^ countDigits → decimalLen v ≤ most → runLen decimalByte rest ≡ 0
-    → decimalAt most (decimalOf v ++ rest) ≡ countFound v (decimalLen v)
-unfolding decimalOfRun leadingZero
-decimal-reads most v rest h m z =
-    rw (run, le-ltb k 1 d.least, le-ltb most k m, zeroless (dec_lt 1 k), take_at x rest k long, value-digits decimal k v d.below)
+pub decimal_reads : (most v : ℕ) (rest : List ℕ) → v < 10 ^ count_digits → decimal_len v ≤ most → run_len decimal_byte rest ≡ 0
+    → decimal_at most (decimal_of v ++ rest) ≡ count_found v (decimal_len v)
+unfolding decimal_of_run leading_zero
+decimal_reads most v rest h m z =
+    rw (run, le-ltb k 1 d.least, le-ltb most k m, zeroless (dec_lt 1 k), take_at x rest k long, value_digits decimal k v d.below)
   where
     k : ℕ
-    k = decimalLen v
+    k = decimal_len v
 
     d : DecimalLen v k
-    d = decimal-has v h
+    d = decimal_has v h
 
     x : List ℕ
-    x = decimalOf v
+    x = decimal_of v
 
     long : length x ≡ k
-    long = digits-length 10 k v
+    long = digits_length 10 k v
 
-    all : runLen decimalByte x ≡ length x
-    all = digits-run decimal k v ∙ sym long
+    all : run_len decimal_byte x ≡ length x
+    all = digits_run decimal k v ∙ sym long
 
-    run : runLen decimalByte (x ++ rest) ≡ k
-    run = omega (arith, long, run-append decimalByte x rest all)
+    run : run_len decimal_byte (x ++ rest) ≡ k
+    run = omega (arith, long, run_append decimal_byte x rest all)
 
     zeroless : Dec (1 < k) → (ltb 1 k && eqb (byte_at (x ++ rest)) digit0) ≡ false
     zeroless (no n) = rw (le-ltb 1 k (omega arith))
@@ -165,129 +165,129 @@ decimal-reads most v rest h m z =
           lt-ltb 1 k g,
           get_or-append x rest 0 0 (omega (arith, long)),
           ne_eqb (byte_at x) digit0
-              (first-high decimal x all (rw long g) (rw (long, value-digits decimal k v d.below) (d.above g))),
+              (first_high decimal x all (rw long g) (rw (long, value_digits decimal k v d.below) (d.above g))),
         )
 
 -- Counts.
-pub count-is-text : (l : List ℕ) (x : Number) → countAt l ≡ ReadCount.Found x → DecimalHere countDigits l x
-count-is-text l x e = decimal-is-text countDigits l x (omega arith) e
+pub count_is_text : (l : List ℕ) (x : Number) → count_at l ≡ ReadCount.Found x → DecimalHere count_digits l x
+count_is_text l x e = decimal_is_text count_digits l x (omega arith) e
 
-pub count-reads : (v : ℕ) (rest : List ℕ) → v < 10 ^ countDigits → runLen decimalByte rest ≡ 0
-    → countAt (countText v ++ rest) ≡ countFound v (length (countText v))
-count-reads v rest h z =
-    decimal-reads countDigits v rest h (decimal-has v h).most z ∙ ap (countFound v) (sym (digits-length 10 (decimalLen v) v))
+pub count_reads : (v : ℕ) (rest : List ℕ) → v < 10 ^ count_digits → run_len decimal_byte rest ≡ 0
+    → count_at (count_text v ++ rest) ≡ count_found v (length (count_text v))
+count_reads v rest h z =
+    decimal_reads count_digits v rest h (decimal_has v h).most z ∙ ap (count_found v) (sym (digits_length 10 (decimal_len v) v))
 
 -- Classes. What a class says: its bytes are those that would be written.
 pub record ClassHere (l : List ℕ) (x : ClassToken) : Type 0 where
   pub within : x.len ≤ length l
   pub class : IsClass x.class
-  pub text : take x.len l ≡ classText x.class
+  pub text : take x.len l ≡ class_text x.class
 
 abbrev pub ClassSays : List ℕ → ReadClass → Type 0
 ClassSays l (ReadClass.Found x) = ClassHere l x
 ClassSays l ReadClass.Bad = Unit
 
-pub class-says : (l : List ℕ) → ClassSays l (class_at l)
-unfolding classAfter
-class-says l = after (decimalAt levelDigits l) (decimal-says levelDigits l (omega arith))
+pub class_says : (l : List ℕ) → ClassSays l (class_at l)
+unfolding class_after
+class_says l = after (decimal_at level_digits l) (decimal_says level_digits l (omega arith))
   where
-    after : (r : ReadCount) → DecimalSays levelDigits l r → ClassSays l (classAfter l r)
+    after : (r : ReadCount) → DecimalSays level_digits l r → ClassSays l (class_after l r)
     after ReadCount.Bad d = tt
     after (ReadCount.Found x) d =
-        says (ltb topLevel x.value) refl (eqb (byte_at (drop x.len l)) slash) refl (eqb (runLen hexByte rest) markDigits) refl
+        says (ltb top_level x.value) refl (eqb (byte_at (drop x.len l)) slash) refl (eqb (run_len hex_byte rest) mark_digits) refl
       where
         rest : List ℕ
         rest = drop (x.len + 1) l
 
         marks : List ℕ
-        marks = take markDigits rest
+        marks = take mark_digits rest
 
-        says : (a : Bool) → ltb topLevel x.value ≡ a → (b : Bool) → eqb (byte_at (drop x.len l)) slash ≡ b
-            → (c : Bool) → eqb (runLen hexByte rest) markDigits ≡ c
+        says : (a : Bool) → ltb top_level x.value ≡ a → (b : Bool) → eqb (byte_at (drop x.len l)) slash ≡ b
+            → (c : Bool) → eqb (run_len hex_byte rest) mark_digits ≡ c
             → ClassSays l
             (cond a ReadClass.Bad
-            (cond b (cond c (classFound (class_of x.value (value_of 16 marks)) (x.len + behindLevel)) ReadClass.Bad) ReadClass.Bad))
+            (cond b (cond c (class_found (class_of x.value (value_of 16 marks)) (x.len + behind_level)) ReadClass.Bad) ReadClass.Bad))
         says true e b f c g = tt
         says false e false f c g = tt
         says false e true f false g = tt
         says false e true f true g = record {
           within = omega (arith, room);
-          class = record { level = ltb-false topLevel x.value e; marks = rw long at (value-fits hex marks all) };
-          text = take-add x.len behindLevel l ∙ rw (d.text, behind, digits);
+          class = record { level = ltb-false top_level x.value e; marks = rw long at (value_fits hex marks all) };
+          text = take-add x.len behind_level l ∙ rw (d.text, behind, digits);
         }
           where
-            run : runLen hexByte rest ≡ markDigits
-            run = eqb-true (runLen hexByte rest) markDigits g
+            run : run_len hex_byte rest ≡ mark_digits
+            run = eqb-true (run_len hex_byte rest) mark_digits g
 
-            room : markDigits ≤ length l - (x.len + 1)
-            room = omega (arith, run, run-le hexByte rest, length-drop (x.len + 1) l)
+            room : mark_digits ≤ length l - (x.len + 1)
+            room = omega (arith, run, run_le hex_byte rest, length-drop (x.len + 1) l)
 
-            long : length marks ≡ markDigits
-            long = length-take-le markDigits rest (omega (arith, run, run-le hexByte rest))
+            long : length marks ≡ mark_digits
+            long = length-take-le mark_digits rest (omega (arith, run, run_le hex_byte rest))
 
-            all : runLen hexByte marks ≡ length marks
-            all = run_take hexByte rest markDigits (omega (arith, run)) ∙ sym long
+            all : run_len hex_byte marks ≡ length marks
+            all = run_take hex_byte rest mark_digits (omega (arith, run)) ∙ sym long
 
             behind : drop x.len l ≡ slash ∷ rest
             behind =
                 drop-cons l x.len 0 (omega (arith, room))
                 ∙ rw (← add-one x.len, ← add-zero x.len, ← get_or-drop x.len l 0 0, eqb-true (byte_at (drop x.len l)) slash f)
 
-            digits : digitsOf 16 markDigits (value_of 16 marks) ≡ marks
+            digits : digits_of 16 mark_digits (value_of 16 marks) ≡ marks
             digits = rw long at (digits_value hex marks all)
 
 -- What is read is what would be written.
-pub class-is-text : (l : List ℕ) (x : ClassToken) → class_at l ≡ ReadClass.Found x → ClassHere l x
-class-is-text l x e = subst (ClassSays l) e (class-says l)
+pub class_is_text : (l : List ℕ) (x : ClassToken) → class_at l ≡ ReadClass.Found x → ClassHere l x
+class_is_text l x e = subst (ClassSays l) e (class_says l)
 
-pub class-length : (c : Class) → length (classText c) ≡ decimalLen c.level + behindLevel
-class-length c =
-    rw length-append (omega (arith, digits-length 10 (decimalLen c.level) c.level, digits-length 16 markDigits c.marks))
+pub class_length : (c : Class) → length (class_text c) ≡ decimal_len c.level + behind_level
+class_length c =
+    rw length-append (omega (arith, digits_length 10 (decimal_len c.level) c.level, digits_length 16 mark_digits c.marks))
 
-slash-no-digit : decimalByte slash ≡ false
-unfolding decimalByte
-slash-no-digit = refl
+slash_no_digit : decimal_byte slash ≡ false
+unfolding decimal_byte
+slash_no_digit = refl
 
 -- What is written reads back where what follows it begins with no hex digit.
-pub class-reads : (c : Class) (rest : List ℕ) → IsClass c → runLen hexByte rest ≡ 0
-    → class_at (classText c ++ rest) ≡ classFound c (length (classText c))
-unfolding classAfter
-class-reads c rest h z =
-    rw (append_assoc x (slash ∷ hexes) rest, level, le-ltb topLevel c.level h.level, drop_at x after k long, ← drop-drop 1 k (x ++ after))
-    (rw (drop_at x after k long, run, take_at hexes rest markDigits wide, value-digits hex markDigits c.marks h.marks)
-    (ap (classFound c) (sym (class-length c))))
+pub class_reads : (c : Class) (rest : List ℕ) → IsClass c → run_len hex_byte rest ≡ 0
+    → class_at (class_text c ++ rest) ≡ class_found c (length (class_text c))
+unfolding class_after
+class_reads c rest h z =
+    rw (append_assoc x (slash ∷ hexes) rest, level, le-ltb top_level c.level h.level, drop_at x after k long, ← drop-drop 1 k (x ++ after))
+    (rw (drop_at x after k long, run, take_at hexes rest mark_digits wide, value_digits hex mark_digits c.marks h.marks)
+    (ap (class_found c) (sym (class_length c))))
   where
     k : ℕ
-    k = decimalLen c.level
+    k = decimal_len c.level
 
     x : List ℕ
-    x = decimalOf c.level
+    x = decimal_of c.level
 
     hexes : List ℕ
-    hexes = digitsOf 16 markDigits c.marks
+    hexes = digits_of 16 mark_digits c.marks
 
-    wide : length hexes ≡ markDigits
-    wide = digits-length 16 markDigits c.marks
+    wide : length hexes ≡ mark_digits
+    wide = digits_length 16 mark_digits c.marks
 
     after : List ℕ
     after = slash ∷ (hexes ++ rest)
 
     long : length x ≡ k
-    long = digits-length 10 k c.level
+    long = digits_length 10 k c.level
 
-    level : decimalAt levelDigits (x ++ after) ≡ countFound c.level k
+    level : decimal_at level_digits (x ++ after) ≡ count_found c.level k
     level =
-        decimal-reads levelDigits c.level after (omega (arith, h.level)) (decimal-short c.level (omega (arith, h.level)))
-        (run-no decimalByte slash (hexes ++ rest) slash-no-digit)
+        decimal_reads level_digits c.level after (omega (arith, h.level)) (decimal_short c.level (omega (arith, h.level)))
+        (run_no decimal_byte slash (hexes ++ rest) slash_no_digit)
 
-    run : runLen hexByte (hexes ++ rest) ≡ markDigits
-    run = omega (arith, wide, run-append hexByte hexes rest (digits-run hex markDigits c.marks ∙ sym wide))
+    run : run_len hex_byte (hexes ++ rest) ≡ mark_digits
+    run = omega (arith, wide, run_append hex_byte hexes rest (digits_run hex mark_digits c.marks ∙ sym wide))
 
 -- "The lowest class is 0/0000000000000000 and the highest 15/ffffffffffffffff."
-pub lowest-text : classText lowest ≡ digit0 ∷ slash ∷ replicate markDigits digit0
-unfolding decimalLen digitsOf digit
-lowest-text = refl
+pub lowest_text : class_text lowest ≡ digit0 ∷ slash ∷ replicate mark_digits digit0
+unfolding decimal_len digits_of digit
+lowest_text = refl
 
-pub highest-text : classText highest ≡ digit 1 ∷ digit 5 ∷ slash ∷ replicate markDigits lowerF
-unfolding decimalLen digitsOf digit
-highest-text = refl
+pub highest_text : class_text highest ≡ digit 1 ∷ digit 5 ∷ slash ∷ replicate mark_digits lower_f
+unfolding decimal_len digits_of digit
+highest_text = refl

@@ -1,76 +1,76 @@
 -- The tokens of a line, as they stand at the front of a text, each with its length; and the text of each.
 -- Assumes nothing.
 use Rattle.std.specs.Prelude.{Bool, cond, ◌&&◌, List, ◌∷◌, ◌++◌, ℕ, ◌+◌, ltb, eqb, take, drop}
-use Rattle.classes.specs.Class.{topLevel, class_of}
+use Rattle.classes.specs.Class.{top_level, class_of}
 use Rattle.classes.specs.declared.Class.{Class}
-use Rattle.items.specs.Names.{nameRoom}
+use Rattle.items.specs.Names.{name_room}
 use Rattle.scans.specs.Ascii.{slash, digit0}
-use Rattle.scans.specs.Bytes.{byte_at, nameByte, decimalByte, hexByte, runLen}
-use Rattle.tokens.specs.Numbers.{value_of, digitsOf, countDigits, decimalOf}
+use Rattle.scans.specs.Bytes.{byte_at, name_byte, decimal_byte, hex_byte, run_len}
+use Rattle.tokens.specs.Numbers.{value_of, digits_of, count_digits, decimal_of}
 use Rattle.tokens.specs.declared.ReadName.{ReadName}
 use Rattle.tokens.specs.declared.ReadCount.{ReadCount}
 use Rattle.tokens.specs.declared.ReadClass.{ReadClass}
 
 -- "A NAME is 1 to 16 bytes of a-z, 0-9 and hyphen." The whole run of such bytes is the name.
-unfoldable pub nameOfRun : ℕ → ReadName
-nameOfRun n = cond (ltb n 1) ReadName.Bad (cond (ltb nameRoom n) ReadName.Bad (ReadName.Found n))
+unfoldable pub name_of_run : ℕ → ReadName
+name_of_run n = cond (ltb n 1) ReadName.Bad (cond (ltb name_room n) ReadName.Bad (ReadName.Found n))
 
 abbrev pub name_at : List ℕ → ReadName
-name_at l = nameOfRun (runLen nameByte l)
+name_at l = name_of_run (run_len name_byte l)
 
 -- "no leading zero (0 itself allowed)": of n digits, more than one, the first is 0.
-unfoldable pub leadingZero : List ℕ → ℕ → Bool
-leadingZero l n = ltb 1 n && eqb (byte_at l) digit0
+unfoldable pub leading_zero : List ℕ → ℕ → Bool
+leading_zero l n = ltb 1 n && eqb (byte_at l) digit0
 
 -- The number v, of n digits.
-abbrev pub countFound : ℕ → ℕ → ReadCount
-countFound v n = ReadCount.Found (record { value = v; len = n })
+abbrev pub count_found : ℕ → ℕ → ReadCount
+count_found v n = ReadCount.Found (record { value = v; len = n })
 
 -- 1 to `most` digits with no leading zero. The whole run of digits is the number.
-unfoldable pub decimalOfRun : ℕ → List ℕ → ℕ → ReadCount
-decimalOfRun most l n =
+unfoldable pub decimal_of_run : ℕ → List ℕ → ℕ → ReadCount
+decimal_of_run most l n =
     cond (ltb n 1) ReadCount.Bad
-    (cond (ltb most n) ReadCount.Bad (cond (leadingZero l n) ReadCount.Bad (countFound (value_of 10 (take n l)) n)))
+    (cond (ltb most n) ReadCount.Bad (cond (leading_zero l n) ReadCount.Bad (count_found (value_of 10 (take n l)) n)))
 
-abbrev pub decimalAt : ℕ → List ℕ → ReadCount
-decimalAt most l = decimalOfRun most l (runLen decimalByte l)
+abbrev pub decimal_at : ℕ → List ℕ → ReadCount
+decimal_at most l = decimal_of_run most l (run_len decimal_byte l)
 
 -- "COUNT is 1 to 5 digits with no leading zero (0 itself allowed)."
-abbrev pub countAt : List ℕ → ReadCount
-countAt l = decimalAt countDigits l
+abbrev pub count_at : List ℕ → ReadCount
+count_at l = decimal_at count_digits l
 
-abbrev pub countText : ℕ → List ℕ
-countText n = decimalOf n
+abbrev pub count_text : ℕ → List ℕ
+count_text n = decimal_of n
 
 -- The level of a class is at most 15, so it has at most 2 digits.
-abbrev pub levelDigits : ℕ
-levelDigits = 2
+abbrev pub level_digits : ℕ
+level_digits = 2
 
 -- "exactly sixteen lower-case hex digits", and how many bytes stand behind the level, the slash among them.
-abbrev pub markDigits : ℕ
-markDigits = 16
+abbrev pub mark_digits : ℕ
+mark_digits = 16
 
-abbrev pub behindLevel : ℕ
-behindLevel = 1 + markDigits
+abbrev pub behind_level : ℕ
+behind_level = 1 + mark_digits
 
 -- The class c, of n bytes.
-abbrev pub classFound : Class → ℕ → ReadClass
-classFound c n = ReadClass.Found (record { class = c; len = n })
+abbrev pub class_found : Class → ℕ → ReadClass
+class_found c n = ReadClass.Found (record { class = c; len = n })
 
 -- "In text a class is the level in decimal with no leading zero, a slash, and exactly sixteen lower-case hex digits; mark k is the bit worth
 -- 2^k." The whole run of hex digits is the marks.
-unfoldable pub classAfter : List ℕ → ReadCount → ReadClass
-classAfter l ReadCount.Bad = ReadClass.Bad
-classAfter l (ReadCount.Found x) =
-    cond (ltb topLevel x.value) ReadClass.Bad
+unfoldable pub class_after : List ℕ → ReadCount → ReadClass
+class_after l ReadCount.Bad = ReadClass.Bad
+class_after l (ReadCount.Found x) =
+    cond (ltb top_level x.value) ReadClass.Bad
     (cond (eqb (byte_at (drop x.len l)) slash)
-    (cond (eqb (runLen hexByte (drop (x.len + 1) l)) markDigits)
-    (classFound (class_of x.value (value_of 16 (take markDigits (drop (x.len + 1) l)))) (x.len + behindLevel))
+    (cond (eqb (run_len hex_byte (drop (x.len + 1) l)) mark_digits)
+    (class_found (class_of x.value (value_of 16 (take mark_digits (drop (x.len + 1) l)))) (x.len + behind_level))
     ReadClass.Bad)
     ReadClass.Bad)
 
 abbrev pub class_at : List ℕ → ReadClass
-class_at l = classAfter l (decimalAt levelDigits l)
+class_at l = class_after l (decimal_at level_digits l)
 
-abbrev pub classText : Class → List ℕ
-classText c = decimalOf c.level ++ slash ∷ digitsOf 16 markDigits c.marks
+abbrev pub class_text : Class → List ℕ
+class_text c = decimal_of c.level ++ slash ∷ digits_of 16 mark_digits c.marks

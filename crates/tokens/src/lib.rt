@@ -4,8 +4,8 @@
 mod numbers;
 
 ghost use Rattle.std.specs.Prelude.{◌≡◌, ◌≤◌, drop};
-ghost use Rattle.tokens.specs.Numbers.{countDigits};
-ghost use Rattle.tokens.specs.Tokens.{name_at, leadingZero, decimalAt, countAt, class_at};
+ghost use Rattle.tokens.specs.Numbers.{count_digits};
+ghost use Rattle.tokens.specs.Tokens.{name_at, leading_zero, decimal_at, count_at, class_at};
 
 use classes::{Class, TOP_LEVEL};
 use items::NAME_ROOM;
@@ -28,33 +28,33 @@ pub const BEHIND_LEVEL: usize = 1 + MARK_DIGITS;
 pub const LETTER_0: u64 = b'a' as u64 - 10;
 
 // A name's length.
-#[derive(Drop)]
+#[derive(Clone, Copy)]
 pub enum ReadName {
     Found(usize),
     Bad,
 }
 
 // A number that stands in a text, and its length there.
-#[derive(Drop)]
+#[derive(Clone, Copy)]
 pub struct Number {
     pub value: u64,
     pub len: usize,
 }
 
-#[derive(Drop)]
+#[derive(Clone, Copy)]
 pub enum ReadCount {
     Found(Number),
     Bad,
 }
 
 // A class that stands in a text, and its length there.
-#[derive(Drop)]
+#[derive(Clone, Copy)]
 pub struct ClassToken {
     pub class: Class,
     pub len: usize,
 }
 
-#[derive(Drop)]
+#[derive(Clone, Copy)]
 pub enum ReadClass {
     Found(ClassToken),
     Bad,
@@ -76,7 +76,7 @@ pub fn read_name(s: &[u8], at: usize) -> ReadName
 
 // The count at a place. Bad where the run of digits there is not of 1 to 5, or has a leading zero; else the value and the length of the run.
 pub fn read_count(s: &[u8], at: usize) -> ReadCount
-    ensures { result ≡ countAt (drop at s.now) }
+    ensures { result ≡ count_at (drop at s.now) }
 {
     decimal(COUNT_DIGITS, s, at)
 }
@@ -107,8 +107,8 @@ pub fn read_class(s: &[u8], at: usize) -> ReadClass
 
 // The number at a place. Bad where the run of digits there is not of 1 to `most`, or has a leading zero.
 fn decimal(most: usize, s: &[u8], at: usize) -> ReadCount
-    requires { most ≤ countDigits }
-    ensures { result ≡ decimalAt most (drop at s.now) }
+    requires { most ≤ count_digits }
+    ensures { result ≡ decimal_at most (drop at s.now) }
 {
     let n = run(Kind::Decimal, s, at);
     if n < 1 {
@@ -128,7 +128,7 @@ fn decimal(most: usize, s: &[u8], at: usize) -> ReadCount
 
 // Whether of n digits at a place, more than one, the first is 0.
 fn leading_zero(s: &[u8], at: usize, n: usize) -> bool
-    ensures { result ≡ leadingZero (drop at s.now) n }
+    ensures { result ≡ leading_zero (drop at s.now) n }
 {
     if n <= 1 {
         return false;

@@ -1,6 +1,6 @@
 // The value of digits, of base 10 or 16.
 ghost use Rattle.std.specs.Prelude.{◌≡◌, ◌-◌, take, drop};
-ghost use Rattle.tokens.specs.Numbers.{digitValue, value_of};
+ghost use Rattle.tokens.specs.Numbers.{digit_value, value_of};
 ghost use Rattle.tokens.specs.InnerDigits.{Digits};
 
 use super::LETTER_0;
@@ -8,7 +8,7 @@ use scans::{DIGIT_0, DIGIT_9};
 
 // What a digit 0-9 or a-f is worth.
 fn digit_value(b: u8) -> u64
-    ensures { result ≡ digitValue b }
+    ensures { result ≡ digit_value b }
 {
     if b <= DIGIT_9 {
         return minus(wide(b), wide(DIGIT_0));

@@ -5,7 +5,7 @@ use refusals::{Refusal, fault_number};
 use rules::{Rule, WORDS, put_rule};
 
 // The refusal's number, 0 for a success; its place, or which success it is; and the values of a success, as many as are counted. A rule has the most.
-#[derive(Drop)]
+#[derive(Clone, Copy)]
 pub struct Answer {
     pub refusal: u64,
     pub which: u64,

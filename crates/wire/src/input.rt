@@ -13,7 +13,7 @@ const LINE: usize = 17;
 const LEVEL: usize = 2;
 
 // One word: its value, whether its line has the form, and whether the input had ended before it.
-#[derive(Drop)]
+#[derive(Clone, Copy)]
 pub struct Word {
     pub value: u64,
     pub good: bool,
@@ -21,7 +21,7 @@ pub struct Word {
 }
 
 // The six numbers of a call, and whether they have the form.
-#[derive(Drop)]
+#[derive(Clone, Copy)]
 pub struct Numbers {
     pub a: u64,
     pub b: u64,
@@ -33,14 +33,14 @@ pub struct Numbers {
 }
 
 // How many elements of a buffer a call lends, and whether they were given in the form.
-#[derive(Drop)]
+#[derive(Clone, Copy)]
 pub struct Lent {
     pub room: usize,
     pub good: bool,
 }
 
 // How many elements of a buffer a call lends and how many of these it gives, and whether that may be.
-#[derive(Drop)]
+#[derive(Clone, Copy)]
 struct Sizes {
     room: usize,
     count: usize,

@@ -3,31 +3,31 @@
 use Rattle.std.specs.Prelude.{List, [], ◌∷◌, ℕ, ◌≤◌, ◌<◌, length}
 use Rattle.laws.specs.First.{AllBelow, FirstFailing}
 use Rattle.laws.specs.Over.{over}
-use Rattle.refusals.specs.Said.{Said, success, refusedBy, saidRefusal}
-use Rattle.refusals.specs.Sizes.{mostText}
+use Rattle.refusals.specs.Said.{Said, success, refused_by, said_refusal}
+use Rattle.refusals.specs.Sizes.{most_text}
 use Rattle.refusals.specs.declared.Fault.{Fault}
 use Rattle.items.specs.Table.{ItemsOk}
 use Rattle.labels.specs.Labels.{LevelInRange, Room}
 use Rattle.rules.specs.declared.Head.{Head}
 use Rattle.accepts.specs.Tables.{Tables}
 use Rattle.writer.specs.declared.Written.{Written}
-use Rattle.writer.specs.Texts.{bookText, labelsText}
+use Rattle.writer.specs.Texts.{book_text, labels_text}
 
 -- What an answer says: the length of the text, or a refusal.
-abbrev pub saidWritten : Written → Said
-saidWritten (Written.Text len) = success 0 (len ∷ [])
-saidWritten (Written.Refused r) = saidRefusal r
+abbrev pub said_written : Written → Said
+said_written (Written.Text len) = success 0 (len ∷ [])
+said_written (Written.Refused r) = said_refusal r
 
 -- "Writing: 10, 1, 11". The buffer held `out`, and holds what the second index says.
 module _ (h : Head) (t w out : List ℕ) where
   abbrev text : List ℕ
-  text = bookText h t w
+  text = book_text h t w
 
   pub data WriteSays : Said → List ℕ → Type 0 where
-    bad-table : (Tables h t w → ⊥) → WriteSays (refusedBy Fault.BadTable 0) out
-    too_long : Tables h t w → mostText < length text → WriteSays (refusedBy Fault.TooLong 0) out
-    no_room : Tables h t w → length text ≤ mostText → length out < length text → WriteSays (refusedBy Fault.NoRoom 0) out
-    written : Tables h t w → length text ≤ mostText → length text ≤ length out → WriteSays (success 0 (length text ∷ [])) (over out 0 text)
+    bad_table : (Tables h t w → ⊥) → WriteSays (refused_by Fault.BadTable 0) out
+    too_long : Tables h t w → most_text < length text → WriteSays (refused_by Fault.TooLong 0) out
+    no_room : Tables h t w → length text ≤ most_text → length out < length text → WriteSays (refused_by Fault.NoRoom 0) out
+    written : Tables h t w → length text ≤ most_text → length text ≤ length out → WriteSays (success 0 (length text ∷ [])) (over out 0 text)
 
 -- Items, and a label for each of them whose level is in range.
 pub record Labels (t : List ℕ) (n : ℕ) (levels marks : List ℕ) : Type 0 where
@@ -35,15 +35,15 @@ pub record Labels (t : List ℕ) (n : ℕ) (levels marks : List ℕ) : Type 0 wh
   pub room : Room n levels marks
   pub range : AllBelow (LevelInRange levels) n
 
--- "Writing a labelling: 10 for the item names, 11 for the labels, 12, then 11 for the text." Item i of `bad-label` is "the first item whose
+-- "Writing a labelling: 10 for the item names, 11 for the labels, 12, then 11 for the text." Item i of `bad_label` is "the first item whose
 -- given label has a level over 15". No such text has over 32,768 bytes.
 module _ (t : List ℕ) (n : ℕ) (levels marks out : List ℕ) where
   abbrev lines : List ℕ
-  lines = labelsText t n levels marks
+  lines = labels_text t n levels marks
 
   pub data LabelsSays : Said → List ℕ → Type 0 where
-    bad-items : (ItemsOk t n → ⊥) → LabelsSays (refusedBy Fault.BadTable 0) out
-    few-labels : ItemsOk t n → (Room n levels marks → ⊥) → LabelsSays (refusedBy Fault.NoRoom 0) out
-    bad-label : ItemsOk t n → Room n levels marks → {i : ℕ} → FirstFailing (LevelInRange levels) n i → LabelsSays (refusedBy Fault.BadLabel i) out
-    short-buffer : Labels t n levels marks → length out < length lines → LabelsSays (refusedBy Fault.NoRoom 0) out
+    bad_items : (ItemsOk t n → ⊥) → LabelsSays (refused_by Fault.BadTable 0) out
+    few_labels : ItemsOk t n → (Room n levels marks → ⊥) → LabelsSays (refused_by Fault.NoRoom 0) out
+    bad_label : ItemsOk t n → Room n levels marks → {i : ℕ} → FirstFailing (LevelInRange levels) n i → LabelsSays (refused_by Fault.BadLabel i) out
+    short_buffer : Labels t n levels marks → length out < length lines → LabelsSays (refused_by Fault.NoRoom 0) out
     labelled : Labels t n levels marks → length lines ≤ length out → LabelsSays (success 0 (length lines ∷ [])) (over out 0 lines)

@@ -4,10 +4,10 @@ ghost use Rattle.std.specs.Prelude.{◌≡◌, ◌++◌};
 ghost use Rattle.items.specs.Table.{name_of, NameAt, ItemsOk};
 ghost use Rattle.rules.specs.Record.{by_kind};
 ghost use Rattle.accepts.specs.Tables.{Tables};
-ghost use Rattle.keys.specs.Keys.{keyText};
+ghost use Rattle.keys.specs.Keys.{key_text};
 ghost use Rattle.puts.specs.Writing.{Put};
 ghost use Rattle.puts.specs.InnerGrowing.{Grown};
-ghost use Rattle.writer.specs.Texts.{formLine, endLine, itemLine, itemLines, leftPiece, leftText, rightText, ruleKey, ruleLine, ruleLines, bookText};
+ghost use Rattle.writer.specs.Texts.{form_line, end_line, item_line, item_lines, left_piece, left_text, right_text, rule_key, rule_line, rule_lines, book_text};
 ghost use Rattle.writer.specs.InnerTexts.{Named, NamedAt};
 
 use items::NAME_ROOM;
@@ -18,7 +18,7 @@ use scans::{COLON, DIGIT_1, LF, PLUS};
 
 // The form line.
 pub(crate) fn form_line(out: &mut [u8], at: usize) -> usize
-    ensures { Grown out.old at formLine out.new result }
+    ensures { Grown out.old at form_line out.new result }
 {
     let value = put_key(Key::Form, out, at);
     put(&[DIGIT_1, LF], out, value)
@@ -26,7 +26,7 @@ pub(crate) fn form_line(out: &mut [u8], at: usize) -> usize
 
 // The end line with its count.
 pub(crate) fn end_line(count: u64, out: &mut [u8], at: usize) -> usize
-    ensures { Grown out.old at (endLine count) out.new result }
+    ensures { Grown out.old at (end_line count) out.new result }
 {
     let value = put_key(Key::End, out, at);
     let lf = put_count(count, out, value);
@@ -46,7 +46,7 @@ pub(crate) fn put_name(items: &[u8], i: usize, out: &mut [u8], at: usize) -> usi
 // The line of item i.
 fn item_line(items: &[u8], i: usize, out: &mut [u8], at: usize) -> usize
     requires { NameAt items.now i }
-    ensures { Grown out.old at (itemLine items.now i) out.new result }
+    ensures { Grown out.old at (item_line items.now i) out.new result }
 {
     let name = put_key(Key::Item, out, at);
     let lf = put_name(items, i, out, name);
@@ -56,7 +56,7 @@ fn item_line(items: &[u8], i: usize, out: &mut [u8], at: usize) -> usize
 // Left name k of a rule with the sign behind it.
 fn left_piece(items: &[u8], rule: Rule, k: usize, out: &mut [u8], at: usize) -> usize
     requires { NamedAt items.now rule k }
-    ensures { Grown out.old at (leftPiece items.now rule k) out.new result }
+    ensures { Grown out.old at (left_piece items.now rule k) out.new result }
 {
     let sign = put_name(items, rule.left[k] as usize, out, at);
     let next = k + 1;
@@ -82,7 +82,7 @@ fn kind_key(kind: u64) -> Key
 // The key of a rule and its left names.
 fn left_names(items: &[u8], rule: Rule, out: &mut [u8], at: usize) -> usize
     requires { Named items.now rule }
-    ensures { Grown out.old at (keyText (ruleKey rule) ++ leftText items.now rule) out.new result }
+    ensures { Grown out.old at (key_text (rule_key rule) ++ left_text items.now rule) out.new result }
 {
     let count = rule.count as usize;
     let mut next = put_key(kind_key(rule.kind), out, at);
@@ -97,7 +97,7 @@ fn left_names(items: &[u8], rule: Rule, out: &mut [u8], at: usize) -> usize
 // What a rule has behind its left names: a follow its right name, any other its class.
 fn right_side(items: &[u8], rule: Rule, out: &mut [u8], at: usize) -> usize
     requires { Named items.now rule }
-    ensures { Put out.old at (rightText items.now rule) out.new result }
+    ensures { Put out.old at (right_text items.now rule) out.new result }
 {
     if rule.kind == FOLLOW {
         return put_name(items, rule.right as usize, out, at);
@@ -108,7 +108,7 @@ fn right_side(items: &[u8], rule: Rule, out: &mut [u8], at: usize) -> usize
 // The line of a rule.
 fn rule_line(items: &[u8], rule: Rule, out: &mut [u8], at: usize) -> usize
     requires { Named items.now rule }
-    ensures { Grown out.old at (ruleLine items.now rule) out.new result }
+    ensures { Grown out.old at (rule_line items.now rule) out.new result }
 {
     let right = left_names(items, rule, out, at);
     let lf = right_side(items, rule, out, right);
@@ -118,7 +118,7 @@ fn rule_line(items: &[u8], rule: Rule, out: &mut [u8], at: usize) -> usize
 // The form line and the line of each of n items.
 fn item_lines(items: &[u8], n: usize, out: &mut [u8]) -> usize
     requires { ItemsOk items.now n }
-    ensures { Grown out.old 0 (formLine ++ itemLines items.now n) out.new result }
+    ensures { Grown out.old 0 (form_line ++ item_lines items.now n) out.new result }
 {
     let mut next = form_line(out, 0);
     let mut i = 0;
@@ -132,7 +132,7 @@ fn item_lines(items: &[u8], n: usize, out: &mut [u8]) -> usize
 // The lines before the end line: the form line, the items' and the rules'.
 fn rule_lines(items: &[u8], rules: &[u64], head: Head, out: &mut [u8]) -> usize
     requires { Tables head items.now rules.now }
-    ensures { Grown out.old 0 (formLine ++ itemLines items.now head.items ++ ruleLines items.now rules.now head.rules) out.new result }
+    ensures { Grown out.old 0 (form_line ++ item_lines items.now head.items ++ rule_lines items.now rules.now head.rules) out.new result }
 {
     let mut next = item_lines(items, head.items, out);
     let mut r = 0;
@@ -146,7 +146,7 @@ fn rule_lines(items: &[u8], rules: &[u64], head: Head, out: &mut [u8]) -> usize
 // The whole text of a rulebook.
 pub(crate) fn book(items: &[u8], rules: &[u64], head: Head, out: &mut [u8]) -> usize
     requires { Tables head items.now rules.now }
-    ensures { Grown out.old 0 (bookText head items.now rules.now) out.new result }
+    ensures { Grown out.old 0 (book_text head items.now rules.now) out.new result }
 {
     let end = rule_lines(items, rules, head, out);
     end_line((1 + head.items + head.rules) as u64, out, end)

@@ -3,7 +3,7 @@
 ghost use Rattle.std.specs.Prelude.{◌++◌};
 ghost use Rattle.items.specs.Table.{NameAt, ItemsOk};
 ghost use Rattle.puts.specs.InnerGrowing.{Grown};
-ghost use Rattle.writer.specs.Texts.{formLine, labelName, labelLine, labelLines};
+ghost use Rattle.writer.specs.Texts.{form_line, label_name, label_line, label_lines};
 ghost use Rattle.writer.specs.InnerTexts.{LabelsReady, LabelsMade};
 
 use super::book::{end_line, form_line, put_name};
@@ -15,7 +15,7 @@ use scans::{COLON, LF};
 // The key of a label, and the name of item i with the colon behind it.
 fn label_name(items: &[u8], i: usize, out: &mut [u8], at: usize) -> usize
     requires { NameAt items.now i }
-    ensures { Grown out.old at (labelName items.now i) out.new result }
+    ensures { Grown out.old at (label_name items.now i) out.new result }
 {
     let name = put(&LABEL_KEY, out, at);
     let colon = put_name(items, i, out, name);
@@ -32,7 +32,7 @@ fn label_line(
     at: usize,
 ) -> usize
     requires { NameAt items.now i }
-    ensures { Grown out.old at (labelLine items.now levels.now marks.now i) out.new result }
+    ensures { Grown out.old at (label_line items.now levels.now marks.now i) out.new result }
 {
     let class = label_name(items, i, out, at);
     let lf = put_class(label_at(levels, marks, i as u64), out, class);
@@ -42,7 +42,7 @@ fn label_line(
 // The lines before the end line: the form line and the line of each of n items.
 fn label_lines(items: &[u8], n: usize, levels: &[u64], marks: &[u64], out: &mut [u8]) -> usize
     requires { ItemsOk items.now n }
-    ensures { Grown out.old 0 (formLine ++ labelLines items.now n levels.now marks.now) out.new result }
+    ensures { Grown out.old 0 (form_line ++ label_lines items.now n levels.now marks.now) out.new result }
 {
     let mut next = form_line(out, 0);
     let mut i = 0;

@@ -5,15 +5,15 @@ mod book;
 mod labelled;
 
 ghost use Rattle.std.specs.Prelude.{◌≡◌};
-ghost use Rattle.refusals.specs.Said.{refusedBy};
-ghost use Rattle.writer.specs.Writing.{saidWritten, WriteSays, LabelsSays};
+ghost use Rattle.refusals.specs.Said.{refused_by};
+ghost use Rattle.writer.specs.Writing.{said_written, WriteSays, LabelsSays};
 ghost use Rattle.writer.specs.InnerTexts.{CopySays};
 
 use refusals::{Fault, MOST_TEXT, Refusal};
 use rules::Head;
 
 // What writing answers: the length of the text, or a refusal.
-#[derive(Drop)]
+#[derive(Clone, Copy)]
 pub enum Written {
     Text(usize),
     Refused(Refusal),
@@ -22,7 +22,7 @@ pub enum Written {
 // BadTable at 0 where the item table or the rule table is not right under this head; TooLong at 0 where the text has over 32,768 bytes; NoRoom
 // at 0 where `out` is shorter than the text; else the text is at the front of `out`, and the answer is its length.
 pub fn write(items: &[u8], rules: &[u64], head: Head, out: &mut [u8]) -> Written
-    ensures { WriteSays head items.now rules.now out.old (saidWritten result) out.new }
+    ensures { WriteSays head items.now rules.now out.old (said_written result) out.new }
 {
     if !items::items_ok(items, head.items) {
         return refused(Fault::BadTable, 0);
@@ -48,7 +48,7 @@ pub fn write_labels(
     marks: &[u64],
     out: &mut [u8],
 ) -> Written
-    ensures { LabelsSays items.now n levels.now marks.now out.old (saidWritten result) out.new }
+    ensures { LabelsSays items.now n levels.now marks.now out.old (said_written result) out.new }
 {
     if !items::items_ok(items, n) {
         return refused(Fault::BadTable, 0);
@@ -67,7 +67,7 @@ pub fn write_labels(
 
 // NoRoom at 0 where `out` is shorter than the text; else the text is at the front of `out`, and the answer is its length.
 fn copy_out(text: &[u8], out: &mut [u8]) -> Written
-    ensures { CopySays text.now out.old (saidWritten result) out.new }
+    ensures { CopySays text.now out.old (said_written result) out.new }
 {
     let len = puts::put(text, out, 0);
     if out.len() < len {
@@ -78,7 +78,7 @@ fn copy_out(text: &[u8], out: &mut [u8]) -> Written
 
 // A refusal.
 fn refused(fault: Fault, place: u64) -> Written
-    ensures { saidWritten result ≡ refusedBy fault place }
+    ensures { said_written result ≡ refused_by fault place }
 {
     Written::Refused(Refusal { fault, place })
 }

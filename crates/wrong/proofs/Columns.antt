@@ -6,21 +6,21 @@ use mathlib.Core.List.{List, []}
 use Prim.Native.Nat.{ℕ}
 use native.Mathlib.Omega.{arith}
 use Rattle.classes.specs.Class.{lowest}
-use Rattle.refusals.specs.Numbers.{faultNumber}
+use Rattle.refusals.specs.Numbers.{fault_number}
 use Rattle.refusals.specs.declared.Fault.{Fault}
 use Rattle.rules.specs.declared.Head.{Head}
-use Rattle.scans.specs.Bytes.{decimalByte, runLen}
-use Rattle.tokens.specs.Tokens.{decimalOfRun, classAfter}
-use Rattle.columns.specs.Reader.{saidReader, ReaderSays}
+use Rattle.scans.specs.Bytes.{decimal_byte, run_len}
+use Rattle.tokens.specs.Tokens.{decimal_of_run, class_after}
+use Rattle.columns.specs.Reader.{said_reader, ReaderSays}
 use Rattle.columns.specs.declared.Reader.{Reader}
-use Rattle.columns.specs.Columns.{saidColumns, ColumnsSays, headed, bad-header}
+use Rattle.columns.specs.Columns.{said_columns, ColumnsSays, headed, bad_header}
 use Rattle.columns.specs.declared.Columns.{Columns}
-use Rattle.columns.proofs.Unique.{columns-unique}
+use Rattle.columns.proofs.Unique.{columns_unique}
 
-pub no-bytes-are-the-lowest-class : ReaderSays [] (saidReader (Reader.Known lowest)) → ⊥
-unfolding classAfter decimalOfRun runLen decimalByte
-no-bytes-are-the-lowest-class x =
-    let f : saidReader (Reader.Known lowest) ≡ saidReader (Reader.Refused (record { fault = Fault.BadLabel; place = 0 })) = x.answer in
+pub no_bytes_are_the_lowest_class : ReaderSays [] (said_reader (Reader.Known lowest)) → ⊥
+unfolding class_after decimal_of_run run_len decimal_byte
+no_bytes_are_the_lowest_class x =
+    let f : said_reader (Reader.Known lowest) ≡ said_reader (Reader.Refused (record { fault = Fault.BadLabel; place = 0 })) = x.answer in
     let z : ◌≡◌ {A = ℕ} 0 1 = cc in
     omega arith
 
@@ -31,24 +31,24 @@ abbrev no_header : Columns
 no_header = Columns.Refused (record { fault = Fault.CsvSyntax; place = 1 })
 
 -- "No bytes at all is 16 at 1".
-right : ColumnsSays [] empty [] [] lowest [] true [] (saidColumns no_header) []
+right : ColumnsSays [] empty [] [] lowest [] true [] (said_columns no_header) []
 right =
     headed (record { size = omega arith; room = omega arith; names = λ i h. absurd (omega arith); distinct = λ j h. absurd (omega arith) })
-    (record { forLevels = omega arith; forMarks = omega arith })
+    (record { for_levels = omega arith; for_marks = omega arith })
     (record { each = λ j h. absurd (omega arith) })
-    (bad-header refl)
+    (bad_header refl)
 
 -- The number of a refusal.
 abbrev number_of : Columns → ℕ
 number_of (Columns.Kept n) = 0
 number_of Columns.More = 0
-number_of (Columns.Refused r) = faultNumber r.fault
+number_of (Columns.Refused r) = fault_number r.fault
 
-pub kept-columns-waits-for-more-of-a-last-text : (d : List Bool) → ColumnsSays [] empty [] [] lowest [] true [] (saidColumns Columns.More) d → ⊥
-kept-columns-waits-for-more-of-a-last-text d x = let e = (columns-unique {r = Columns.More} {s = no_header} x right).answer in let z : ◌≡◌ {A = ℕ} 0 1 = cc in omega arith
+pub kept_columns_waits_for_more_of_a_last_text : (d : List Bool) → ColumnsSays [] empty [] [] lowest [] true [] (said_columns Columns.More) d → ⊥
+kept_columns_waits_for_more_of_a_last_text d x = let e = (columns_unique {r = Columns.More} {s = no_header} x right).answer in let z : ◌≡◌ {A = ℕ} 0 1 = cc in omega arith
 
-pub kept-columns-blames-the-names-of-no-header : (d : List Bool)
-    → ColumnsSays [] empty [] [] lowest [] true [] (saidColumns (Columns.Refused (record { fault = Fault.CsvHeader; place = 1 }))) d → ⊥
-kept-columns-blames-the-names-of-no-header d x =
-    let z : ◌≡◌ {A = ℕ} 17 16 = ap number_of (columns-unique {r = Columns.Refused (record { fault = Fault.CsvHeader; place = 1 })} {s = no_header} x right).answer in
+pub kept_columns_blames_the_names_of_no_header : (d : List Bool)
+    → ColumnsSays [] empty [] [] lowest [] true [] (said_columns (Columns.Refused (record { fault = Fault.CsvHeader; place = 1 }))) d → ⊥
+kept_columns_blames_the_names_of_no_header d x =
+    let z : ◌≡◌ {A = ℕ} 17 16 = ap number_of (columns_unique {r = Columns.Refused (record { fault = Fault.CsvHeader; place = 1 })} {s = no_header} x right).answer in
     omega arith

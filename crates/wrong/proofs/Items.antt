@@ -8,18 +8,18 @@ use native.Mathlib.Decide.{dec_le}
 use native.Mathlib.Omega.{arith}
 use lib.ListN.{replicate}
 use Rattle.laws.specs.Tells.{Tells}
-use Rattle.laws.specs.Every.{everyBelow}
-use Rattle.laws.specs.Search.{firstBelow}
-use Rattle.scans.specs.Bytes.{nameByte}
+use Rattle.laws.specs.Every.{every_below}
+use Rattle.laws.specs.Search.{first_below}
+use Rattle.scans.specs.Bytes.{name_byte}
 use Rattle.refusals.specs.Said.{success, refused}
-use Rattle.items.specs.Names.{nameBytes, isName}
-use Rattle.items.specs.Table.{tableFits, entryByte, nameLen, NameAt, ItemsOk}
-use Rattle.items.specs.Lookup.{saidFound, same_name, lookUp, findIn, FindSays}
+use Rattle.items.specs.Names.{name_bytes, is_name}
+use Rattle.items.specs.Table.{table_fits, entry_byte, name_len, NameAt, ItemsOk}
+use Rattle.items.specs.Lookup.{said_found, same_name, look_up, find_in, FindSays}
 use Rattle.items.specs.declared.Found.{Found}
 
 -- The item "a", an item of sixteen bytes a, and one without a name.
-abbrev onlyA : List ℕ
-onlyA = 97 ∷ replicate 15 0
+abbrev only_a : List ℕ
+only_a = 97 ∷ replicate 15 0
 
 abbrev longest : List ℕ
 longest = replicate 16 97
@@ -28,51 +28,51 @@ abbrev nameless : List ℕ
 nameless = replicate 16 0
 
 -- Looked up is "b".
-pub find-answers-the-count : FindSays onlyA 1 (98 ∷ []) (saidFound (Found.At 1)) → ⊥
-unfolding findIn lookUp same_name tableFits isName nameBytes nameByte everyBelow firstBelow entryByte
-find-answers-the-count x = let e : success 0 (1 ∷ []) ≡ success 1 [] = x.answer in let z : ◌≡◌ {A = ℕ} 0 1 = cc in omega arith
+pub find_answers_the_count : FindSays only_a 1 (98 ∷ []) (said_found (Found.At 1)) → ⊥
+unfolding find_in look_up same_name table_fits is_name name_bytes name_byte every_below first_below entry_byte
+find_answers_the_count x = let e : success 0 (1 ∷ []) ≡ success 1 [] = x.answer in let z : ◌≡◌ {A = ℕ} 0 1 = cc in omega arith
 
-pub find-is-absent-of-an-item : FindSays onlyA 1 (97 ∷ []) (saidFound Found.Absent) → ⊥
-unfolding findIn lookUp same_name tableFits isName nameBytes nameByte everyBelow firstBelow entryByte
-find-is-absent-of-an-item x = let e : success 1 [] ≡ success 0 (0 ∷ []) = x.answer in let z : ◌≡◌ {A = ℕ} 0 1 = cc in omega arith
+pub find_is_absent_of_an_item : FindSays only_a 1 (97 ∷ []) (said_found Found.Absent) → ⊥
+unfolding find_in look_up same_name table_fits is_name name_bytes name_byte every_below first_below entry_byte
+find_is_absent_of_an_item x = let e : success 1 [] ≡ success 0 (0 ∷ []) = x.answer in let z : ◌≡◌ {A = ℕ} 0 1 = cc in omega arith
 
 -- Seventeen bytes a, of which a table has room for sixteen.
-pub find-answers-at-of-a-name-of-17-bytes : FindSays longest 1 (replicate 17 97) (saidFound (Found.At 0)) → ⊥
-unfolding findIn tableFits isName nameBytes nameByte
-find-answers-at-of-a-name-of-17-bytes x = let e : success 0 (0 ∷ []) ≡ success 1 [] = x.answer in let z : ◌≡◌ {A = ℕ} 0 1 = cc in omega arith
+pub find_answers_at_of_a_name_of_17_bytes : FindSays longest 1 (replicate 17 97) (said_found (Found.At 0)) → ⊥
+unfolding find_in table_fits is_name name_bytes name_byte
+find_answers_at_of_a_name_of_17_bytes x = let e : success 0 (0 ∷ []) ≡ success 1 [] = x.answer in let z : ◌≡◌ {A = ℕ} 0 1 = cc in omega arith
 
-pub find-answers-at-of-no-bytes : FindSays nameless 1 [] (saidFound (Found.At 0)) → ⊥
-unfolding findIn tableFits isName nameBytes nameByte
-find-answers-at-of-no-bytes x = let e : success 0 (0 ∷ []) ≡ success 1 [] = x.answer in let z : ◌≡◌ {A = ℕ} 0 1 = cc in omega arith
+pub find_answers_at_of_no_bytes : FindSays nameless 1 [] (said_found (Found.At 0)) → ⊥
+unfolding find_in table_fits is_name name_bytes name_byte
+find_answers_at_of_no_bytes x = let e : success 0 (0 ∷ []) ≡ success 1 [] = x.answer in let z : ◌≡◌ {A = ℕ} 0 1 = cc in omega arith
 
 -- A table of one item that is said to have two.
-pub find-is-absent-of-a-short-table : FindSays onlyA 2 (98 ∷ []) (saidFound Found.Absent) → ⊥
-unfolding findIn tableFits
-find-is-absent-of-a-short-table x = let e : success 1 [] ≡ refused 10 0 = x.answer in let z : ◌≡◌ {A = ℕ} 0 1 = cc in omega arith
+pub find_is_absent_of_a_short_table : FindSays only_a 2 (98 ∷ []) (said_found Found.Absent) → ⊥
+unfolding find_in table_fits
+find_is_absent_of_a_short_table x = let e : success 1 [] ≡ refused 10 0 = x.answer in let z : ◌≡◌ {A = ℕ} 0 1 = cc in omega arith
 
 -- The bytes "a", zero, "b".
 abbrev behind : List ℕ
 behind = 97 ∷ 0 ∷ 98 ∷ replicate 13 0
 
-no-name-behind : NameAt behind 0 → ⊥
-unfolding entryByte nameByte
-no-name-behind x = go (dec_le x.len 2)
+no_name_behind : NameAt behind 0 → ⊥
+unfolding entry_byte name_byte
+no_name_behind x = go (dec_le x.len 2)
   where
     go : Dec (x.len ≤ 2) → ⊥
     go (yes l) = let z : ◌≡◌ {A = ℕ} 98 0 = x.rest.zeros 2 l (omega arith) in omega arith
     go (no l) = let z : false ≡ true = x.bytes 1 (omega arith) in true≢false (cc)
 
-pub items-ok-with-bytes-behind-a-name : Tells (ItemsOk behind 1) true → ⊥
-items-ok-with-bytes-behind-a-name t = no-name-behind ((t.holds refl).names 0 (omega arith))
+pub items_ok_with_bytes_behind_a_name : Tells (ItemsOk behind 1) true → ⊥
+items_ok_with_bytes_behind_a_name t = no_name_behind ((t.holds refl).names 0 (omega arith))
 
-pub items-ok-of-a-short-table : Tells (ItemsOk onlyA 2) true → ⊥
-items-ok-of-a-short-table t = let z : 32 ≤ 16 = (t.holds refl).room in omega arith
+pub items_ok_of_a_short_table : Tells (ItemsOk only_a 2) true → ⊥
+items_ok_of_a_short_table t = let z : 32 ≤ 16 = (t.holds refl).room in omega arith
 
 -- The name "a-b".
-pub name-len-ends-at-a-hyphen : 1 ≡ nameLen (97 ∷ 45 ∷ 98 ∷ replicate 13 0) 0 → ⊥
-unfolding nameLen firstBelow entryByte
-name-len-ends-at-a-hyphen e = let z : ◌≡◌ {A = ℕ} 1 3 = e in omega arith
+pub name_len_ends_at_a_hyphen : 1 ≡ name_len (97 ∷ 45 ∷ 98 ∷ replicate 13 0) 0 → ⊥
+unfolding name_len first_below entry_byte
+name_len_ends_at_a_hyphen e = let z : ◌≡◌ {A = ℕ} 1 3 = e in omega arith
 
-pub name-len-of-a-longest-name-is-0 : 0 ≡ nameLen longest 0 → ⊥
-unfolding nameLen firstBelow entryByte
-name-len-of-a-longest-name-is-0 e = let z : ◌≡◌ {A = ℕ} 0 16 = e in omega arith
+pub name_len_of_a_longest_name_is_0 : 0 ≡ name_len longest 0 → ⊥
+unfolding name_len first_below entry_byte
+name_len_of_a_longest_name_is_0 e = let z : ◌≡◌ {A = ℕ} 0 16 = e in omega arith

@@ -6,43 +6,43 @@ use Prim.Native.Nat.{ℕ}
 use native.Mathlib.Omega.{arith}
 use lib.ListN.{drop, replicate}
 use Rattle.classes.specs.Class.{class_of}
-use Rattle.scans.specs.Bytes.{nameByte, decimalByte, hexByte, runLen}
-use Rattle.tokens.specs.Numbers.{digitValue, valueAfter}
-use Rattle.tokens.specs.Tokens.{nameOfRun, name_at, leadingZero, decimalOfRun, countFound, countAt, classFound, classAfter, class_at}
+use Rattle.scans.specs.Bytes.{name_byte, decimal_byte, hex_byte, run_len}
+use Rattle.tokens.specs.Numbers.{digit_value, value_after}
+use Rattle.tokens.specs.Tokens.{name_of_run, name_at, leading_zero, decimal_of_run, count_found, count_at, class_found, class_after, class_at}
 use Rattle.tokens.specs.declared.ReadName.{ReadName}
 use Rattle.tokens.specs.declared.ReadCount.{ReadCount}
 use Rattle.tokens.specs.declared.ReadClass.{ReadClass}
 
 -- Seventeen bytes a.
-pub read-name-finds-17-bytes : ReadName.Found 17 ≡ name_at (drop 0 (replicate 17 97)) → ⊥
-unfolding nameOfRun runLen nameByte
-read-name-finds-17-bytes e = let f : ReadName.Found 17 ≡ ReadName.Bad = e in let z : ◌≡◌ {A = ℕ} 0 1 = cc in omega arith
+pub read_name_finds_17_bytes : ReadName.Found 17 ≡ name_at (drop 0 (replicate 17 97)) → ⊥
+unfolding name_of_run run_len name_byte
+read_name_finds_17_bytes e = let f : ReadName.Found 17 ≡ ReadName.Bad = e in let z : ◌≡◌ {A = ℕ} 0 1 = cc in omega arith
 
-pub read-name-finds-no-bytes : ReadName.Found 0 ≡ name_at (drop 0 []) → ⊥
-unfolding nameOfRun runLen nameByte
-read-name-finds-no-bytes e = let f : ReadName.Found 0 ≡ ReadName.Bad = e in let z : ◌≡◌ {A = ℕ} 0 1 = cc in omega arith
+pub read_name_finds_no_bytes : ReadName.Found 0 ≡ name_at (drop 0 []) → ⊥
+unfolding name_of_run run_len name_byte
+read_name_finds_no_bytes e = let f : ReadName.Found 0 ≡ ReadName.Bad = e in let z : ◌≡◌ {A = ℕ} 0 1 = cc in omega arith
 
 -- "111111", of any value.
-pub read-count-finds-six-digits : (v : ℕ) → countFound v 6 ≡ countAt (drop 0 (replicate 6 49)) → ⊥
-unfolding decimalOfRun runLen decimalByte
-read-count-finds-six-digits v e = let f : countFound v 6 ≡ ReadCount.Bad = e in let z : ◌≡◌ {A = ℕ} 0 1 = cc in omega arith
+pub read_count_finds_six_digits : (v : ℕ) → count_found v 6 ≡ count_at (drop 0 (replicate 6 49)) → ⊥
+unfolding decimal_of_run run_len decimal_byte
+read_count_finds_six_digits v e = let f : count_found v 6 ≡ ReadCount.Bad = e in let z : ◌≡◌ {A = ℕ} 0 1 = cc in omega arith
 
 -- "07"
-pub read-count-finds-a-leading-zero : countFound 7 2 ≡ countAt (drop 0 (48 ∷ 55 ∷ [])) → ⊥
-unfolding decimalOfRun leadingZero runLen decimalByte
-read-count-finds-a-leading-zero e = let f : countFound 7 2 ≡ ReadCount.Bad = e in let z : ◌≡◌ {A = ℕ} 0 1 = cc in omega arith
+pub read_count_finds_a_leading_zero : count_found 7 2 ≡ count_at (drop 0 (48 ∷ 55 ∷ [])) → ⊥
+unfolding decimal_of_run leading_zero run_len decimal_byte
+read_count_finds_a_leading_zero e = let f : count_found 7 2 ≡ ReadCount.Bad = e in let z : ◌≡◌ {A = ℕ} 0 1 = cc in omega arith
 
 -- "0"
-pub read-count-is-bad-of-zero : ReadCount.Bad ≡ countAt (drop 0 (48 ∷ [])) → ⊥
-unfolding decimalOfRun leadingZero runLen decimalByte valueAfter digitValue
-read-count-is-bad-of-zero e = let f : ReadCount.Bad ≡ countFound 0 1 = e in let z : ◌≡◌ {A = ℕ} 0 1 = cc in omega arith
+pub read_count_is_bad_of_zero : ReadCount.Bad ≡ count_at (drop 0 (48 ∷ [])) → ⊥
+unfolding decimal_of_run leading_zero run_len decimal_byte value_after digit_value
+read_count_is_bad_of_zero e = let f : ReadCount.Bad ≡ count_found 0 1 = e in let z : ◌≡◌ {A = ℕ} 0 1 = cc in omega arith
 
 -- "16/0000000000000000"
-pub read-class-finds-level-16 : classFound (class_of 16 0) 19 ≡ class_at (drop 0 (49 ∷ 54 ∷ 47 ∷ replicate 16 48)) → ⊥
-unfolding classAfter decimalOfRun leadingZero runLen decimalByte hexByte valueAfter digitValue
-read-class-finds-level-16 e = let f : classFound (class_of 16 0) 19 ≡ ReadClass.Bad = e in let z : ◌≡◌ {A = ℕ} 0 1 = cc in omega arith
+pub read_class_finds_level_16 : class_found (class_of 16 0) 19 ≡ class_at (drop 0 (49 ∷ 54 ∷ 47 ∷ replicate 16 48)) → ⊥
+unfolding class_after decimal_of_run leading_zero run_len decimal_byte hex_byte value_after digit_value
+read_class_finds_level_16 e = let f : class_found (class_of 16 0) 19 ≡ ReadClass.Bad = e in let z : ◌≡◌ {A = ℕ} 0 1 = cc in omega arith
 
 -- "1/000000000000000"
-pub read-class-finds-fifteen-hex-digits : classFound (class_of 1 0) 17 ≡ class_at (drop 0 (49 ∷ 47 ∷ replicate 15 48)) → ⊥
-unfolding classAfter decimalOfRun leadingZero runLen decimalByte hexByte valueAfter digitValue
-read-class-finds-fifteen-hex-digits e = let f : classFound (class_of 1 0) 17 ≡ ReadClass.Bad = e in let z : ◌≡◌ {A = ℕ} 0 1 = cc in omega arith
+pub read_class_finds_fifteen_hex_digits : class_found (class_of 1 0) 17 ≡ class_at (drop 0 (49 ∷ 47 ∷ replicate 15 48)) → ⊥
+unfolding class_after decimal_of_run leading_zero run_len decimal_byte hex_byte value_after digit_value
+read_class_finds_fifteen_hex_digits e = let f : class_found (class_of 1 0) 17 ≡ ReadClass.Bad = e in let z : ◌≡◌ {A = ℕ} 0 1 = cc in omega arith

@@ -6,8 +6,8 @@ use Rattle.rules.specs.declared.Head.{Head}
 abbrev pub head : ℕ → ℕ → Head
 head n m = record { items = n; rules = m }
 
-abbrev pub twoItems : Head
-twoItems = head 2 0
+abbrev pub two_items : Head
+two_items = head 2 0
 
-abbrev pub wrongCount : ℕ
-wrongCount = 0
+abbrev pub wrong_count : ℕ
+wrong_count = 0

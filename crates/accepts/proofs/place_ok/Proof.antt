@@ -1,5 +1,5 @@
 -- `place_ok` meets its contract. Assumes nothing.
-use Rattle.accepts.proofs.Accepts.{place-spare, place_out, place-last, place-next}
+use Rattle.accepts.proofs.Accepts.{place_spare, place_out, place_last, place_next}
 use borrow.Author.Rules.{rules}
 use Rattle.accepts.proofs.place_ok.Statement.{statement}
 use Rattle.accepts.proofs.place_ok.Tie as tie
@@ -11,7 +11,7 @@ element-copy-out-item : tie.Need-element-copy-out-item
 element-copy-out-item c = search rules
 
 returns : tie.Need-returns
-returns c = search (place-spare, rules)
+returns c = search (place_spare, rules)
 
 returns-2 : tie.Need-returns-2
 returns-2 c = search (place_out, rules)
@@ -20,7 +20,7 @@ add-next : tie.Need-overflow-add-next
 add-next c = search rules
 
 returns-3 : tie.Need-returns-3
-returns-3 c = search (place-last, rules)
+returns-3 c = search (place_last, rules)
 
 mul-result : tie.Need-overflow-mul-result
 mul-result c = search rules
@@ -29,10 +29,10 @@ element-copy-out-result : tie.Need-element-copy-out-result
 element-copy-out-result c = search rules
 
 returns-4 : tie.Need-returns-4
-returns-4 c = search (place-next, rules)
+returns-4 c = search (place_next, rules)
 
-pub place-ok-spec : {M : Type 1} → statement M
-place-ok-spec =
+pub place_ok_spec : {M : Type 1} → statement M
+place_ok_spec =
     tie.close
     (tie.spec
     mul-item

@@ -1,6 +1,6 @@
 -- `answer` meets its contract. Assumes nothing.
 use borrow.Author.Rules.{rules}
-use Rattle.answers.proofs.Says.{routine-roomless, routine-copied}
+use Rattle.answers.proofs.Says.{routine_roomless, routine_copied}
 use Rattle.answers.proofs.answer.Statement.{statement}
 use Rattle.answers.proofs.answer.Tie as tie
 
@@ -11,7 +11,7 @@ make-requires : tie.Need-make-requires
 make-requires c κs = search rules
 
 returns : tie.Need-returns
-returns c = search (routine-roomless, rules)
+returns c = search (routine_roomless, rules)
 
 sub-put : tie.Need-overflow-sub-put
 sub-put c = search rules
@@ -29,10 +29,10 @@ same_length : tie.Need-same-length
 same_length c = search rules
 
 returns-2 : tie.Need-returns-2
-returns-2 c = search (routine-copied, rules)
+returns-2 c = search (routine_copied, rules)
 
-pub answer-spec : {M : Type 1} → statement M
-answer-spec =
+pub answer_spec : {M : Type 1} → statement M
+answer_spec =
     tie.close
     (tie.spec
     slice-aggregate-make

@@ -1,6 +1,6 @@
 -- `count_line` meets its contract, piece by piece. Assumes nothing.
 use borrow.Author.Rules.{rules}
-use Rattle.answers.proofs.Says.{line-grown}
+use Rattle.answers.proofs.Says.{line_grown}
 use Rattle.answers.proofs.count_line.Statement.{statement}
 use Rattle.answers.proofs.count_line.Tie as tie
 
@@ -20,10 +20,10 @@ same_length : tie.Need-same-length
 same_length c = search rules
 
 returns : tie.Need-returns
-returns c = search (line-grown, rules)
+returns c = search (line_grown, rules)
 
-pub count-line-spec : {M : Type 1} → statement M
-count-line-spec =
+pub count_line_spec : {M : Type 1} → statement M
+count_line_spec =
     tie.close
     (tie.spec
     put-requires

@@ -1,6 +1,6 @@
 -- `labels_text` meets its contract: right labels are written. Assumes nothing.
 use borrow.Author.Rules.{rules}
-use Rattle.answers.proofs.Says.{labels-written, labels-never-refused}
+use Rattle.answers.proofs.Says.{labels_written, labels_never_refused}
 use Rattle.answers.proofs.labels_text.Statement.{statement}
 use Rattle.answers.proofs.labels_text.Tie as tie
 
@@ -20,16 +20,16 @@ same_length : tie.Need-same-length
 same_length c = search rules
 
 returns : tie.Need-returns
-returns c = search (labels-written, rules)
+returns c = search (labels_written, rules)
 
 same-length-2 : tie.Need-same-length-2
 same-length-2 c = search rules
 
 returns-2 : tie.Need-returns-2
-returns-2 c = absurd (search (labels-never-refused, rules))
+returns-2 c = absurd (search (labels_never_refused, rules))
 
-pub labels-text-spec : {M : Type 1} → statement M
-labels-text-spec =
+pub labels_text_spec : {M : Type 1} → statement M
+labels_text_spec =
     tie.close
     (tie.spec
     write-labels-requires

@@ -1,6 +1,6 @@
 -- `make` meets its contract. Assumes nothing.
 use borrow.Author.Rules.{rules}
-use Rattle.answers.proofs.Says.{labels-ready, answer-labelled, answer-refused}
+use Rattle.answers.proofs.Says.{labels_ready, answer_labelled, answer_refused}
 use Rattle.answers.proofs.make.Statement.{statement}
 use Rattle.answers.proofs.make.Tie as tie
 
@@ -29,7 +29,7 @@ slice-aggregate-labels-text-3 : tie.Need-slice-aggregate-labels-text-3
 slice-aggregate-labels-text-3 c = search rules
 
 labels-text-requires : tie.Need-labels-text-requires
-labels-text-requires c κs = search (labels-ready, rules)
+labels-text-requires c κs = search (labels_ready, rules)
 
 enum-known-refusal : tie.Need-enum-known-refusal
 enum-known-refusal c = search rules
@@ -41,13 +41,13 @@ same_length : tie.Need-same-length
 same_length c = search rules
 
 returns : tie.Need-returns
-returns c = search (answer-labelled, rules)
+returns c = search (answer_labelled, rules)
 
 same-length-2 : tie.Need-same-length-2
 same-length-2 c = search rules
 
 returns-2 : tie.Need-returns-2
-returns-2 c = search (answer-refused, rules)
+returns-2 c = search (answer_refused, rules)
 
 pub make_spec : {M : Type 1} → statement M
 make_spec =

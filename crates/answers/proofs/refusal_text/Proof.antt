@@ -1,6 +1,6 @@
 -- `refusal_text` meets its contract, line by line. Assumes nothing.
 use borrow.Author.Rules.{rules}
-use Rattle.answers.proofs.Says.{refusal-grown}
+use Rattle.answers.proofs.Says.{refusal_grown}
 use Rattle.answers.proofs.refusal_text.Statement.{statement}
 use Rattle.answers.proofs.refusal_text.Tie as tie
 
@@ -35,10 +35,10 @@ same_length : tie.Need-same-length
 same_length c = search rules
 
 returns : tie.Need-returns
-returns c = search (refusal-grown, rules)
+returns c = search (refusal_grown, rules)
 
-pub refusal-text-spec : {M : Type 1} → statement M
-refusal-text-spec =
+pub refusal_text_spec : {M : Type 1} → statement M
+refusal_text_spec =
     tie.close
     (tie.spec
     fault-number-requires

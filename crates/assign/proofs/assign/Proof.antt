@@ -1,7 +1,7 @@
 -- `assign` meets its contract. Assumes nothing.
 use mathlib.Core.Path.{refl}
 use borrow.Author.Rules.{rules}
-use Rattle.assign.proofs.Says.{tables-right, says-unread, says-read}
+use Rattle.assign.proofs.Says.{tables_right, says_unread, says_read}
 use Rattle.assign.proofs.assign.Statement.{statement}
 use Rattle.assign.proofs.assign.Tie as tie
 
@@ -24,7 +24,7 @@ slice-aggregate-label-2 : tie.Need-slice-aggregate-label-2
 slice-aggregate-label-2 c = search rules
 
 label-requires : tie.Need-label-requires
-label-requires c κs = tables-right c.before.before.before.before.before.before.before.before.before.before.read.ensures refl refl c.before.before.before.before.before.before.head.given.1
+label-requires c κs = tables_right c.before.before.before.before.before.before.before.before.before.before.read.ensures refl refl c.before.before.before.before.before.before.head.given.1
 
 enum-known-refusal : tie.Need-enum-known-refusal
 enum-known-refusal c = search rules
@@ -39,13 +39,13 @@ same-length-3 : tie.Need-same-length-3
 same-length-3 c = search rules
 
 returns : tie.Need-returns
-returns c = search (says-read, rules)
+returns c = search (says_read, rules)
 
 returns-2 : tie.Need-returns-2
-returns-2 c = search (says-unread, rules)
+returns-2 c = search (says_unread, rules)
 
-pub assign-spec : {M : Type 1} → statement M
-assign-spec =
+pub assign_spec : {M : Type 1} → statement M
+assign_spec =
     tie.close
     (tie.spec
     slice-aggregate-read

@@ -1,6 +1,6 @@
 -- `label` meets its contract. Assumes nothing.
 use borrow.Author.Rules.{rules}
-use Rattle.assign.proofs.Says.{names-within, says-short, says-refused, says-labelled}
+use Rattle.assign.proofs.Says.{names_within, says_short, says_refused, says_labelled}
 use Rattle.assign.proofs.label.Statement.{statement}
 use Rattle.assign.proofs.label.Tie as tie
 
@@ -8,7 +8,7 @@ mul-bytes : tie.Need-overflow-mul-bytes
 mul-bytes c = search rules
 
 returns : tie.Need-returns
-returns c = search (says-short, rules)
+returns c = search (says_short, rules)
 
 solve-requires : tie.Need-solve-requires
 solve-requires c κs = search rules
@@ -23,7 +23,7 @@ part-put-start : tie.Need-slice-bounds-put-start
 part-put-start c = search rules
 
 part-put-end : tie.Need-slice-bounds-put-end
-part-put-end c = search (names-within, rules)
+part-put-end c = search (names_within, rules)
 
 put-requires : tie.Need-put-requires
 put-requires c κs = search rules
@@ -41,7 +41,7 @@ same-length-3 : tie.Need-same-length-3
 same-length-3 c = search rules
 
 returns-2 : tie.Need-returns-2
-returns-2 c = search (says-labelled, rules)
+returns-2 c = search (says_labelled, rules)
 
 same-length-4 : tie.Need-same-length-4
 same-length-4 c = search rules
@@ -50,10 +50,10 @@ same-length-5 : tie.Need-same-length-5
 same-length-5 c = search rules
 
 returns-3 : tie.Need-returns-3
-returns-3 c = search (says-refused, rules)
+returns-3 c = search (says_refused, rules)
 
-pub label-spec : {M : Type 1} → statement M
-label-spec =
+pub label_spec : {M : Type 1} → statement M
+label_spec =
     tie.close
     (tie.spec
     mul-bytes

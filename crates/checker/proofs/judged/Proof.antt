@@ -1,6 +1,6 @@
 -- `checker::judged` meets its contract: one law for each answer.
 -- Assumes nothing.
-use Rattle.checker.proofs.Says.{judges-no-room, judges-bad-label, judges-unmet, judges-met}
+use Rattle.checker.proofs.Says.{judges_no_room, judges_bad_label, judges_unmet, judges_met}
 use borrow.Author.Rules.{rules}
 use Rattle.checker.proofs.judged.Statement.{statement}
 use Rattle.checker.proofs.judged.Tie as tie
@@ -12,7 +12,7 @@ refused-requires : tie.Need-refused-requires
 refused-requires c κs = search rules
 
 returns : tie.Need-returns
-returns c = search (judges-no-room, rules)
+returns c = search (judges_no_room, rules)
 
 first-bad-requires : tie.Need-first-bad-requires
 first-bad-requires c κs = search rules
@@ -21,15 +21,15 @@ refused-requires-2 : tie.Need-refused-requires-2
 refused-requires-2 c κs = search rules
 
 returns-2 : tie.Need-returns-2
-returns-2 c = search (judges-bad-label, rules)
+returns-2 c = search (judges_bad_label, rules)
 
 returns-3 : tie.Need-returns-3
-returns-3 c = search (judges-unmet, rules)
+returns-3 c = search (judges_unmet, rules)
 
 returns-4 : tie.Need-returns-4
-returns-4 c = search (judges-met, rules)
+returns-4 c = search (judges_met, rules)
 
-pub judged-spec : {M : Type 1} → statement M
-judged-spec =
+pub judged_spec : {M : Type 1} → statement M
+judged_spec =
     tie.close
     (tie.spec has-room-requires refused-requires returns first-bad-requires refused-requires-2 returns-2 returns-3 returns-4)

@@ -1,6 +1,6 @@
 -- `checker::met` meets its contract: by the rule's kind, what covering tells of the two classes.
 -- Assumes nothing.
-use Rattle.checker.proofs.Meets.{cap-met, floor-met, follow-met}
+use Rattle.checker.proofs.Meets.{cap_met, floor_met, follow_met}
 use borrow.Author.Rules.{rules}
 use Rattle.checker.proofs.met.Statement.{statement}
 use Rattle.checker.proofs.met.Tie as tie
@@ -15,7 +15,7 @@ covers-requires : tie.Need-covers-requires
 covers-requires c κs = search rules
 
 returns : tie.Need-returns
-returns c = search (cap-met, rules)
+returns c = search (cap_met, rules)
 
 left-join-requires : tie.Need-left-join-requires
 left-join-requires c κs = search rules
@@ -24,7 +24,7 @@ covers-requires-2 : tie.Need-covers-requires-2
 covers-requires-2 c κs = search rules
 
 returns-2 : tie.Need-returns-2
-returns-2 c = search (floor-met, rules)
+returns-2 c = search (floor_met, rules)
 
 label-at-requires-2 : tie.Need-label-at-requires-2
 label-at-requires-2 c κs = search rules
@@ -33,10 +33,10 @@ covers-requires-3 : tie.Need-covers-requires-3
 covers-requires-3 c κs = search rules
 
 returns-3 : tie.Need-returns-3
-returns-3 c = search (follow-met, rules)
+returns-3 c = search (follow_met, rules)
 
-pub met-spec : {M : Type 1} → statement M
-met-spec =
+pub met_spec : {M : Type 1} → statement M
+met_spec =
     tie.close
     (tie.spec
     element-copy-out-label-at

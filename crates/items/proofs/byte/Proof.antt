@@ -2,7 +2,7 @@
 use mathlib.Core.Path.{refl, sym}
 use native.Mathlib.Omega.{arith}
 use borrow.Author.Rules.{rules}
-use Rattle.items.specs.Table.{entryByte}
+use Rattle.items.specs.Table.{entry_byte}
 use Rattle.items.proofs.Table.{past_end}
 use Rattle.items.proofs.byte.Statement.{statement}
 use Rattle.items.proofs.byte.Tie as tie
@@ -26,8 +26,8 @@ shared-slice-read-result : tie.Need-shared-slice-read-result
 shared-slice-read-result c = search rules
 
 returns-3 : tie.Need-returns-3
-unfolding entryByte
+unfolding entry_byte
 returns-3 c = refl
 
-pub byte-spec : {M : Type 1} → statement M
-byte-spec = tie.close (tie.spec returns mul_at sub-if2 returns-2 add-result shared-slice-read-result returns-3)
+pub byte_spec : {M : Type 1} → statement M
+byte_spec = tie.close (tie.spec returns mul_at sub-if2 returns-2 add-result shared-slice-read-result returns-3)

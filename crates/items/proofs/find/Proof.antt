@@ -7,40 +7,40 @@ use lib.ListN.{length}
 use native.Mathlib.Omega.{arith}
 use borrow.Author.Rules.{rules}
 use borrow.Author.Tests.{not-true, not-false, le-leb, lt-ltb, le-ltb}
-use Rattle.laws.specs.Search.{firstBelow}
-use Rattle.items.specs.Names.{nameRoom, isName}
-use Rattle.items.specs.Table.{tableFits}
-use Rattle.refusals.specs.Sizes.{mostItems}
-use Rattle.items.specs.Lookup.{saidFound, badTable, same_name, lookUp, findIn, FindSays}
+use Rattle.laws.specs.Search.{first_below}
+use Rattle.items.specs.Names.{name_room, is_name}
+use Rattle.items.specs.Table.{table_fits}
+use Rattle.refusals.specs.Sizes.{most_items}
+use Rattle.items.specs.Lookup.{said_found, bad_table, same_name, look_up, find_in, FindSays}
 use Rattle.items.specs.declared.Found.TheVariants.{At, Absent}
 use Rattle.items.specs.declared.Found.{Found}
-use Rattle.items.proofs.Lookup.{find-is}
+use Rattle.items.proofs.Lookup.{find_is}
 use Rattle.items.proofs.find.Statement.{statement}
 use Rattle.items.proofs.find.Tie as tie
 
-told : {t : List ℕ} {n : ℕ} {name : List ℕ} {r : Found} → r ≡ findIn t n name → FindSays t n name (saidFound r)
-told e = record { answer = ap saidFound e }
+told : {t : List ℕ} {n : ℕ} {name : List ℕ} {r : Found} → r ≡ find_in t n name → FindSays t n name (said_found r)
+told e = record { answer = ap said_found e }
 
 module _ (t : List ℕ) (n : ℕ) (name : List ℕ) where
-  too_many : mostItems < n → {r : Found} → r ≡ badTable → FindSays t n name (saidFound r)
-  too_many h e = told (e ∙ find-is t n name badTable (record { is = refl; wrong = λ s. omega (arith, s.size) }))
+  too_many : most_items < n → {r : Found} → r ≡ bad_table → FindSays t n name (said_found r)
+  too_many h e = told (e ∙ find_is t n name bad_table (record { is = refl; wrong = λ s. omega (arith, s.size) }))
 
-  no_room : length t < n * nameRoom → {r : Found} → r ≡ badTable → FindSays t n name (saidFound r)
-  no_room h e = told (e ∙ find-is t n name badTable (record { is = refl; wrong = λ s. omega (arith, s.room) }))
+  no_room : length t < n * name_room → {r : Found} → r ≡ bad_table → FindSays t n name (said_found r)
+  no_room h e = told (e ∙ find_is t n name bad_table (record { is = refl; wrong = λ s. omega (arith, s.room) }))
 
-module _ (t : List ℕ) (n : ℕ) (name : List ℕ) (size : n ≤ mostItems) (room : n * nameRoom ≤ length t) (r : Bool) (e : r ≡ isName name) where
-  no_name : not r ≡ true → FindSays t n name (saidFound Absent)
-  unfolding findIn tableFits
-  no_name f = record { answer = rw (le-leb n mostItems size, le-leb (n * nameRoom) (length t) room, sym e ∙ not-true r f) }
+module _ (t : List ℕ) (n : ℕ) (name : List ℕ) (size : n ≤ most_items) (room : n * name_room ≤ length t) (r : Bool) (e : r ≡ is_name name) where
+  no_name : not r ≡ true → FindSays t n name (said_found Absent)
+  unfolding find_in table_fits
+  no_name f = record { answer = rw (le-leb n most_items size, le-leb (n * name_room) (length t) room, sym e ∙ not-true r f) }
 
-  module _ (f : not r ≡ false) (i : ℕ) (q : i ≡ firstBelow n (λ j. same_name t j name)) where
-    found : i < n → FindSays t n name (saidFound (At i))
-    unfolding findIn tableFits lookUp
-    found l = record { answer = rw (le-leb n mostItems size, le-leb (n * nameRoom) (length t) room, sym e ∙ not-false r f, ← q, lt-ltb i n l) }
+  module _ (f : not r ≡ false) (i : ℕ) (q : i ≡ first_below n (λ j. same_name t j name)) where
+    found : i < n → FindSays t n name (said_found (At i))
+    unfolding find_in table_fits look_up
+    found l = record { answer = rw (le-leb n most_items size, le-leb (n * name_room) (length t) room, sym e ∙ not-false r f, ← q, lt-ltb i n l) }
 
-    none_found : n ≤ i → FindSays t n name (saidFound Absent)
-    unfolding findIn tableFits lookUp
-    none_found l = record { answer = rw (le-leb n mostItems size, le-leb (n * nameRoom) (length t) room, sym e ∙ not-false r f, ← q, le-ltb i n l) }
+    none_found : n ≤ i → FindSays t n name (said_found Absent)
+    unfolding find_in table_fits look_up
+    none_found l = record { answer = rw (le-leb n most_items size, le-leb (n * name_room) (length t) room, sym e ∙ not-false r f, ← q, le-ltb i n l) }
 
 bad-table-requires : tie.Need-bad-table-requires
 bad-table-requires c κs = search rules

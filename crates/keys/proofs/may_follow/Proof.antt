@@ -7,11 +7,11 @@ use native.Mathlib.Omega.{arith}
 use lib.Dec.{eqb}
 use lib.ListN.{get_or}
 use borrow.Author.Rules.{rules}
-use Rattle.laws.specs.Every.{everyBelow}
+use Rattle.laws.specs.Every.{every_below}
 use Rattle.laws.proofs.Bools.{beq_same}
-use Rattle.laws.proofs.Every.{every-at}
-use Rattle.keys.specs.Keys.{nextAllowed}
-use Rattle.keys.proofs.KeyTexts.{keyCount, next-past-rows, next-past-columns}
+use Rattle.laws.proofs.Every.{every_at}
+use Rattle.keys.specs.Keys.{next_allowed}
+use Rattle.keys.proofs.KeyTexts.{key_count, next_past_rows, next_past_columns}
 use Rattle.keys.proofs.may_follow.Statement.{statement}
 use Rattle.keys.proofs.may_follow.Tie as tie
 
@@ -23,29 +23,29 @@ cells =
 
 -- The cell's rule, and the test of it.
 right : ℕ → Bool
-right i = beq (eqb (get_or cells i 0) 1) (nextAllowed (i / keyCount) (i % keyCount))
+right i = beq (eqb (get_or cells i 0) 1) (next_allowed (i / key_count) (i % key_count))
 
-cells_right : everyBelow (keyCount * keyCount) right ≡ true
-unfolding everyBelow cells right nextAllowed
+cells_right : every_below (key_count * key_count) right ≡ true
+unfolding every_below cells right next_allowed
 cells_right = refl
 
 module _ (after key : ℕ) where
   place : ℕ
-  place = after * keyCount + key
+  place = after * key_count + key
 
-  cell : after < keyCount → key < keyCount → eqb (get_or cells place 0) 1 ≡ nextAllowed after key
+  cell : after < key_count → key < key_count → eqb (get_or cells place 0) 1 ≡ next_allowed after key
   unfolding right place
   cell h g =
-      let row : place / keyCount ≡ after = omega arith in
-      let column : place % keyCount ≡ key = omega arith in
-      beq_same (eqb (get_or cells place 0) 1) (nextAllowed after key)
-      (rw (row, column) at (every-at (keyCount * keyCount) right cells_right place (omega arith)))
+      let row : place / key_count ≡ after = omega arith in
+      let column : place % key_count ≡ key = omega arith in
+      beq_same (eqb (get_or cells place 0) 1) (next_allowed after key)
+      (rw (row, column) at (every_at (key_count * key_count) right cells_right place (omega arith)))
 
 returns : tie.Need-returns
-returns c = search (next-past-rows, rules)
+returns c = search (next_past_rows, rules)
 
 returns-2 : tie.Need-returns-2
-returns-2 c = search (next-past-columns, rules)
+returns-2 c = search (next_past_columns, rules)
 
 mul-cell : tie.Need-overflow-mul-cell
 mul-cell c = search rules
@@ -60,6 +60,6 @@ returns-3 : tie.Need-returns-3
 unfolding cells place
 returns-3 c = cell _ _ (omega arith) (omega arith)
 
-pub may-follow-spec : {M : Type 1} → statement M
-may-follow-spec =
+pub may_follow_spec : {M : Type 1} → statement M
+may_follow_spec =
     tie.close (tie.spec returns returns-2 mul-cell add-cell array-read-result returns-3)

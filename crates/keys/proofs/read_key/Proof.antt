@@ -1,6 +1,6 @@
 -- `read_key` meets its contract: the keys are looked for one after the other. Assumes nothing.
 use borrow.Author.Rules.{rules}
-use Rattle.keys.proofs.KeyTexts.{found-six}
+use Rattle.keys.proofs.KeyTexts.{found_six}
 use Rattle.keys.proofs.read_key.Statement.{statement}
 use Rattle.keys.proofs.read_key.Tie as tie
 
@@ -41,10 +41,10 @@ key-or-requires-6 : tie.Need-key-or-requires-6
 key-or-requires-6 c κs = search rules
 
 returns : tie.Need-returns
-returns c = search (found-six, rules)
+returns c = search (found_six, rules)
 
-pub read-key-spec : {M : Type 1} → statement M
-read-key-spec =
+pub read_key_spec : {M : Type 1} → statement M
+read_key_spec =
     tie.close
     (tie.spec
     slice-aggregate-key-or

@@ -3,7 +3,7 @@ use mathlib.Core.Path.{sym}
 use native.Mathlib.Omega.{arith}
 use lib.Seq.{length-take-le}
 use borrow.Author.Rules.{rules}
-use Rattle.answers.proofs.Short.{answer-within}
+use Rattle.answers.proofs.Short.{answer_within}
 use Rattle.label.proofs.main.Statement.{statement}
 use Rattle.label.proofs.main.Tie as tie
 
@@ -35,10 +35,10 @@ returns : tie.Need-returns
 returns c = search rules
 
 array-share-prefix-out : tie.Need-array-share-prefix-out
-array-share-prefix-out c = answer-within c.before.before.before.before.answer.ensures (omega arith) c.before.len.given.1
+array-share-prefix-out c = answer_within c.before.before.before.before.answer.ensures (omega arith) c.before.len.given.1
 
 slice-aggregate-write-all : tie.Need-slice-aggregate-write-all
-slice-aggregate-write-all c = sym (length-take-le _ _ (answer-within c.before.before.before.before.before.answer.ensures (omega arith) c.before.before.len.given.1))
+slice-aggregate-write-all c = sym (length-take-le _ _ (answer_within c.before.before.before.before.before.answer.ensures (omega arith) c.before.before.len.given.1))
 
 write-all-requires : tie.Need-write-all-requires
 write-all-requires c κs = search rules

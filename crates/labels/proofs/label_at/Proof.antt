@@ -1,5 +1,5 @@
 -- `label_at` meets its contract. Assumes nothing.
-use Rattle.labels.proofs.Tested.{label-made}
+use Rattle.labels.proofs.Tested.{label_made}
 use borrow.Author.Rules.{rules}
 use Rattle.labels.proofs.label_at.Statement.{statement}
 use Rattle.labels.proofs.label_at.Tie as tie
@@ -14,7 +14,7 @@ new-requires : tie.Need-new-requires
 new-requires c κs = search rules
 
 returns : tie.Need-returns
-returns c = search (label-made, rules)
+returns c = search (label_made, rules)
 
-pub label-at-spec : {M : Type 1} → statement M
-label-at-spec = tie.close (tie.spec value-at-requires value-at-requires-2 new-requires returns)
+pub label_at_spec : {M : Type 1} → statement M
+label_at_spec = tie.close (tie.spec value-at-requires value-at-requires-2 new-requires returns)

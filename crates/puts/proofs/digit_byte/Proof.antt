@@ -32,6 +32,6 @@ returns c = search (low, rules)
 returns-2 : tie.Need-returns-2
 returns-2 c = search (high, rules)
 
-pub digit-byte-spec : {M : Type 1} → statement M
-digit-byte-spec =
+pub digit_byte_spec : {M : Type 1} → statement M
+digit_byte_spec =
     tie.close (tie.spec cast-result add-result add-result-2 cast-result-2 returns returns-2)

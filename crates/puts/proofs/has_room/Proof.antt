@@ -26,5 +26,5 @@ returns c = search (past, rules)
 returns-2 : tie.Need-returns-2
 returns-2 c = search (within, rules)
 
-pub has-room-spec : {M : Type 1} → statement M
-has-room-spec = tie.close (tie.spec returns returns-2)
+pub has_room_spec : {M : Type 1} → statement M
+has_room_spec = tie.close (tie.spec returns returns-2)

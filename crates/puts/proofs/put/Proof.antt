@@ -2,63 +2,63 @@
 use Prim.Native.Nat.{◌-◌}
 use lib.ListN.{length}
 use borrow.Author.Rules.{rules}
-use Rattle.puts.proofs.Placed.{put-nowhere}
+use Rattle.puts.proofs.Placed.{put_nowhere}
 use Rattle.laws.proofs.Copying.{Copied, copied_none, copied_more}
-use Rattle.puts.proofs.Puts.{room-yes, bytes-copied}
+use Rattle.puts.proofs.Puts.{room_yes, bytes_copied}
 use Rattle.puts.proofs.put.Statement.{statement}
 use Rattle.puts.proofs.put.Tie as tie
 
-abbrev invariant-loop : tie.invariant-loop
-invariant-loop bytes out₀ at i₀ out i = Copied out₀ at bytes out i
+abbrev invariant_loop : tie.invariant_loop
+invariant_loop bytes out₀ at i₀ out i = Copied out₀ at bytes out i
 
-abbrev decreases-loop : tie.decreases-loop
-decreases-loop bytes out₀ at i₀ out i = length bytes - i
+abbrev decreases_loop : tie.decreases_loop
+decreases_loop bytes out₀ at i₀ out i = length bytes - i
 
-has-room-requires : tie.Need-has-room-requires invariant-loop decreases-loop
+has-room-requires : tie.Need-has-room-requires invariant_loop decreases_loop
 has-room-requires c κs = search rules
 
-add-result : tie.Need-overflow-add-result invariant-loop decreases-loop
+add-result : tie.Need-overflow-add-result invariant_loop decreases_loop
 add-result c = search rules
 
-returns : tie.Need-returns invariant-loop decreases-loop
-returns c = search (put-nowhere, rules)
+returns : tie.Need-returns invariant_loop decreases_loop
+returns c = search (put_nowhere, rules)
 
-loop-holds : tie.Need-loop-init invariant-loop decreases-loop
-loop-holds c = search (copied_none, room-yes, rules)
+loop-holds : tie.Need-loop-init invariant_loop decreases_loop
+loop-holds c = search (copied_none, room_yes, rules)
 
-shared-slice-read-out : tie.Need-shared-slice-read-out invariant-loop decreases-loop
+shared-slice-read-out : tie.Need-shared-slice-read-out invariant_loop decreases_loop
 shared-slice-read-out c = search rules
 
-add-out : tie.Need-overflow-add-out invariant-loop decreases-loop
+add-out : tie.Need-overflow-add-out invariant_loop decreases_loop
 add-out c = search rules
 
-slice-write-out : tie.Need-slice-write-out invariant-loop decreases-loop
+slice-write-out : tie.Need-slice-write-out invariant_loop decreases_loop
 slice-write-out c = search rules
 
-add-i : tie.Need-overflow-add-i invariant-loop decreases-loop
+add-i : tie.Need-overflow-add-i invariant_loop decreases_loop
 add-i c = search rules
 
-loop-less : tie.Need-loop-smaller invariant-loop decreases-loop
+loop-less : tie.Need-loop-smaller invariant_loop decreases_loop
 loop-less c = search rules
 
-loop-again : tie.Need-loop-preserved invariant-loop decreases-loop
+loop-again : tie.Need-loop-preserved invariant_loop decreases_loop
 loop-again c = search (copied_more, rules)
 
-add-result-2 : tie.Need-overflow-add-result-2 invariant-loop decreases-loop
+add-result-2 : tie.Need-overflow-add-result-2 invariant_loop decreases_loop
 add-result-2 c = search rules
 
-same_length : tie.Need-same-length invariant-loop decreases-loop
+same_length : tie.Need-same-length invariant_loop decreases_loop
 same_length c = c.before.loop.invariant.kept
 
-returns-2 : tie.Need-returns-2 invariant-loop decreases-loop
-returns-2 c = search (bytes-copied, rules)
+returns-2 : tie.Need-returns-2 invariant_loop decreases_loop
+returns-2 c = search (bytes_copied, rules)
 
 pub put_spec : {M : Type 1} → statement M
 put_spec =
     tie.close
     (tie.spec
-    invariant-loop
-    decreases-loop
+    invariant_loop
+    decreases_loop
     has-room-requires
     add-result
     returns

@@ -93,8 +93,8 @@ same-length-6 c = search rules
 returns-6 : tie.Need-returns-6
 returns-6 c = rw c.before.before.before.before.before.enum-told6.given.1 c.before.before.put6.ensures
 
-pub put-key-spec : {M : Type 1} → statement M
-put-key-spec =
+pub put_key_spec : {M : Type 1} → statement M
+put_key_spec =
     tie.close
     (tie.spec
     enum_told

@@ -1,5 +1,5 @@
 -- `copy_out` meets its contract. Assumes nothing.
-use Rattle.reader.proofs.Answers.{no_items, no-rules, copied-book}
+use Rattle.reader.proofs.Answers.{no_items, no_rules, copied_book}
 use borrow.Author.Rules.{rules}
 use Rattle.reader.proofs.copy_out.Statement.{statement}
 use Rattle.reader.proofs.copy_out.Tie as tie
@@ -20,7 +20,7 @@ refused-requires-2 : tie.Need-refused-requires-2
 refused-requires-2 c κs = search rules
 
 returns-2 : tie.Need-returns-2
-returns-2 c = search (no-rules, rules)
+returns-2 c = search (no_rules, rules)
 
 sub-put : tie.Need-overflow-sub-put
 sub-put c = search rules
@@ -53,10 +53,10 @@ same-length-2 : tie.Need-same-length-2
 same-length-2 c = search rules
 
 returns-3 : tie.Need-returns-3
-returns-3 c = search (copied-book, rules)
+returns-3 c = search (copied_book, rules)
 
-pub copy-out-spec : {M : Type 1} → statement M
-copy-out-spec =
+pub copy_out_spec : {M : Type 1} → statement M
+copy_out_spec =
     tie.close
     (tie.spec
     mul-bytes

@@ -1,11 +1,11 @@
 -- `end_within` meets its contract. Assumes nothing.
 use borrow.Author.Rules.{rules}
-use Rattle.records.proofs.NthField.{end-unknown}
+use Rattle.records.proofs.NthField.{end_unknown}
 use Rattle.records.proofs.end_within.Statement.{statement}
 use Rattle.records.proofs.end_within.Tie as tie
 
 returns : tie.Need-returns
-returns c = search (end-unknown, rules)
+returns c = search (end_unknown, rules)
 
 mul-lesser : tie.Need-overflow-mul-lesser
 mul-lesser c = search rules
@@ -19,6 +19,6 @@ lesser-requires c κs = search rules
 returns-2 : tie.Need-returns-2
 returns-2 c = search rules
 
-pub end-within-spec : {M : Type 1} → statement M
-end-within-spec =
+pub end_within_spec : {M : Type 1} → statement M
+end_within_spec =
     tie.close (tie.spec returns mul-lesser shared-slice-read-lesser lesser-requires returns-2)

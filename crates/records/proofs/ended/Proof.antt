@@ -1,6 +1,6 @@
 -- `ended` meets its contract, variant by variant. Assumes nothing.
 use borrow.Author.Rules.{rules}
-use Rattle.records.proofs.Sizes.{ended-line, ended-end, ended-end-more, ended-cr-more, ended-cut-more}
+use Rattle.records.proofs.Sizes.{ended_line, ended_end, ended_end_more, ended_cr_more, ended_cut_more}
 use Rattle.records.proofs.ended.Statement.{statement}
 use Rattle.records.proofs.ended.Tie as tie
 
@@ -38,25 +38,25 @@ enum-told-3 : tie.Need-enum-told-3
 enum-told-3 c = search rules
 
 returns : tie.Need-returns
-returns c = search (ended-line, rules)
+returns c = search (ended_line, rules)
 
 returns-2 : tie.Need-returns-2
-returns-2 c = search (ended-end, rules)
+returns-2 c = search (ended_end, rules)
 
 returns-3 : tie.Need-returns-3
-returns-3 c = search (ended-end-more, rules)
+returns-3 c = search (ended_end_more, rules)
 
 returns-4 : tie.Need-returns-4
 returns-4 c = search rules
 
 returns-5 : tie.Need-returns-5
-returns-5 c = search (ended-cr-more, rules)
+returns-5 c = search (ended_cr_more, rules)
 
 returns-6 : tie.Need-returns-6
 returns-6 c = search rules
 
 returns-7 : tie.Need-returns-7
-returns-7 c = search (ended-cut-more, rules)
+returns-7 c = search (ended_cut_more, rules)
 
 returns-8 : tie.Need-returns-8
 returns-8 c = search rules
@@ -64,8 +64,8 @@ returns-8 c = search rules
 returns-9 : tie.Need-returns-9
 returns-9 c = search rules
 
-pub ended-spec : {M : Type 1} → statement M
-ended-spec =
+pub ended_spec : {M : Type 1} → statement M
+ended_spec =
     tie.close
     (tie.spec
     enum-known-found

@@ -22,8 +22,8 @@ part-result-end c = search rules
 returns : tie.Need-returns
 returns c = search (part_cut, rules)
 
-pub nth-field-spec : {M : Type 1} → statement M
-nth-field-spec =
+pub nth_field_spec : {M : Type 1} → statement M
+nth_field_spec =
     tie.close
     (tie.spec
     end-within-requires

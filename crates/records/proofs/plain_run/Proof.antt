@@ -6,56 +6,56 @@ use lib.ListN.{length}
 use borrow.Author.Rules.{rules}
 use borrow.Author.Tests.{not-true, not-false}
 use Rattle.records.specs.Fields.{plain}
-use Rattle.records.proofs.Past.{Past, past-none, past-plain-on, past-plain-stop, past-plain-end}
+use Rattle.records.proofs.Past.{Past, past_none, past_plain_on, past_plain_stop, past_plain_end}
 use Rattle.records.proofs.plain_run.Statement.{statement}
 use Rattle.records.proofs.plain_run.Tie as tie
 
-abbrev invariant-loop : tie.invariant-loop
-invariant-loop text at i₀ i = Past plain text at i
+abbrev invariant_loop : tie.invariant_loop
+invariant_loop text at i₀ i = Past plain text at i
 
-abbrev decreases-loop : tie.decreases-loop
-decreases-loop text at i₀ i = length text - i
+abbrev decreases_loop : tie.decreases_loop
+decreases_loop text at i₀ i = length text - i
 
-loop-holds : tie.Need-loop-init invariant-loop decreases-loop
-loop-holds c = search (past-none, rules)
+loop-holds : tie.Need-loop-init invariant_loop decreases_loop
+loop-holds c = search (past_none, rules)
 
-shared-slice-read-is-plain : tie.Need-shared-slice-read-is-plain invariant-loop decreases-loop
+shared-slice-read-is-plain : tie.Need-shared-slice-read-is-plain invariant_loop decreases_loop
 shared-slice-read-is-plain c = search rules
 
-is-plain-requires : tie.Need-is-plain-requires invariant-loop decreases-loop
+is-plain-requires : tie.Need-is-plain-requires invariant_loop decreases_loop
 is-plain-requires c κs = search rules
 
-sub-result : tie.Need-overflow-sub-result invariant-loop decreases-loop
+sub-result : tie.Need-overflow-sub-result invariant_loop decreases_loop
 sub-result c = search rules
 
-returns : tie.Need-returns invariant-loop decreases-loop
+returns : tie.Need-returns invariant_loop decreases_loop
 returns c =
-    past-plain-stop c.before.before.before.before.loop.invariant (omega arith)
+    past_plain_stop c.before.before.before.before.loop.invariant (omega arith)
     (sym c.before.is_plain.ensures ∙ not-true _ c.if1.true)
 
-add-i : tie.Need-overflow-add-i invariant-loop decreases-loop
+add-i : tie.Need-overflow-add-i invariant_loop decreases_loop
 add-i c = search rules
 
-loop-less : tie.Need-loop-smaller invariant-loop decreases-loop
+loop-less : tie.Need-loop-smaller invariant_loop decreases_loop
 loop-less c = search rules
 
-loop-again : tie.Need-loop-preserved invariant-loop decreases-loop
+loop-again : tie.Need-loop-preserved invariant_loop decreases_loop
 loop-again c =
-    past-plain-on c.before.before.before.before.loop.invariant (omega arith)
+    past_plain_on c.before.before.before.before.loop.invariant (omega arith)
     (sym c.before.is_plain.ensures ∙ not-false _ c.if1.false)
 
-sub-result-2 : tie.Need-overflow-sub-result-2 invariant-loop decreases-loop
+sub-result-2 : tie.Need-overflow-sub-result-2 invariant_loop decreases_loop
 sub-result-2 c = search rules
 
-returns-2 : tie.Need-returns-2 invariant-loop decreases-loop
-returns-2 c = search (past-plain-end, rules)
+returns-2 : tie.Need-returns-2 invariant_loop decreases_loop
+returns-2 c = search (past_plain_end, rules)
 
-pub plain-run-spec : {M : Type 1} → statement M
-plain-run-spec =
+pub plain_run_spec : {M : Type 1} → statement M
+plain_run_spec =
     tie.close
     (tie.spec
-    invariant-loop
-    decreases-loop
+    invariant_loop
+    decreases_loop
     loop-holds
     shared-slice-read-is-plain
     is-plain-requires

@@ -1,6 +1,6 @@
 -- `start_within` meets its contract. Assumes nothing.
 use borrow.Author.Rules.{rules}
-use Rattle.records.proofs.NthField.{start_first, start-before, start-past}
+use Rattle.records.proofs.NthField.{start_first, start_before, start_past}
 use Rattle.records.proofs.start_within.Statement.{statement}
 use Rattle.records.proofs.start_within.Tie as tie
 
@@ -20,13 +20,13 @@ add-result : tie.Need-overflow-add-result
 add-result c = search rules
 
 returns-2 : tie.Need-returns-2
-returns-2 c = search (start-before, rules)
+returns-2 c = search (start_before, rules)
 
 returns-3 : tie.Need-returns-3
-returns-3 c = search (start-past, rules)
+returns-3 c = search (start_past, rules)
 
-pub start-within-spec : {M : Type 1} → statement M
-start-within-spec =
+pub start_within_spec : {M : Type 1} → statement M
+start_within_spec =
     tie.close
     (tie.spec
     lesser-requires

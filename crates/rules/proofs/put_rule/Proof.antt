@@ -1,12 +1,12 @@
 -- `put_rule` meets its contract. Assumes nothing.
 use native.Mathlib.Omega.{arith}
-use Rattle.rules.proofs.Put.{put-no-room}
+use Rattle.rules.proofs.Put.{put_no_room}
 use borrow.Author.Rules.{rules}
 use Rattle.rules.proofs.put_rule.Statement.{statement}
 use Rattle.rules.proofs.put_rule.Tie as tie
 
 returns : tie.Need-returns
-returns c = put-no-room (omega arith)
+returns c = put_no_room (omega arith)
 
 array-read-t10 : tie.Need-array-read-t10
 array-read-t10 c = search rules
@@ -47,8 +47,8 @@ same_length c = search rules
 returns-2 : tie.Need-returns-2
 returns-2 c = search rules
 
-pub put-rule-spec : {M : Type 1} → statement M
-put-rule-spec =
+pub put_rule_spec : {M : Type 1} → statement M
+put_rule_spec =
     tie.close
     (tie.spec
     returns

@@ -1,5 +1,5 @@
 -- `rule_at` meets its contract. Assumes nothing.
-use Rattle.rules.proofs.Words.{rule-made}
+use Rattle.rules.proofs.Words.{rule_made}
 use borrow.Author.Rules.{rules}
 use Rattle.rules.proofs.rule_at.Statement.{statement}
 use Rattle.rules.proofs.rule_at.Tie as tie
@@ -47,10 +47,10 @@ new-requires : tie.Need-new-requires
 new-requires c κs = search rules
 
 returns : tie.Need-returns
-returns c = search (rule-made, rules)
+returns c = search (rule_made, rules)
 
-pub rule-at-spec : {M : Type 1} → statement M
-rule-at-spec =
+pub rule_at_spec : {M : Type 1} → statement M
+rule_at_spec =
     tie.close
     (tie.spec
     word-requires

@@ -1,6 +1,6 @@
 -- `byte_at` meets its contract: the byte at the front of what is left at the place. Assumes nothing.
 use borrow.Author.Rules.{rules}
-use Rattle.scans.proofs.Places.{byte-in, byte_past}
+use Rattle.scans.proofs.Places.{byte_in, byte_past}
 use Rattle.scans.proofs.byte_at.Statement.{statement}
 use Rattle.scans.proofs.byte_at.Tie as tie
 
@@ -11,7 +11,7 @@ shared-slice-read-result : tie.Need-shared-slice-read-result
 shared-slice-read-result c = search rules
 
 returns-2 : tie.Need-returns-2
-returns-2 c = search (byte-in, rules)
+returns-2 c = search (byte_in, rules)
 
-pub byte-at-spec : {M : Type 1} → statement M
-byte-at-spec = tie.close (tie.spec returns shared-slice-read-result returns-2)
+pub byte_at_spec : {M : Type 1} → statement M
+byte_at_spec = tie.close (tie.spec returns shared-slice-read-result returns-2)

@@ -5,20 +5,20 @@ use Prim.Native.Nat.{ℕ, ◌≤◌, ◌<◌}
 use native.Mathlib.Omega.{arith}
 use borrow.Author.Rules.{rules}
 use borrow.Author.Tests.{le-leb, lt-leb}
-use Rattle.scans.specs.Bytes.{decimalByte}
+use Rattle.scans.specs.Bytes.{decimal_byte}
 use Rattle.scans.proofs.is_decimal.Statement.{statement}
 use Rattle.scans.proofs.is_decimal.Tie as tie
 
-digit : {b : ℕ} → 48 ≤ b → b < 58 → true ≡ decimalByte b
-unfolding decimalByte
+digit : {b : ℕ} → 48 ≤ b → b < 58 → true ≡ decimal_byte b
+unfolding decimal_byte
 digit {b} h g = rw (le-leb 48 b h, le-leb b 57 (omega arith))
 
-under : {b : ℕ} → b < 48 → false ≡ decimalByte b
-unfolding decimalByte
+under : {b : ℕ} → b < 48 → false ≡ decimal_byte b
+unfolding decimal_byte
 under {b} h = rw (lt-leb 48 b h)
 
-above : {b : ℕ} → 57 < b → false ≡ decimalByte b
-unfolding decimalByte
+above : {b : ℕ} → 57 < b → false ≡ decimal_byte b
+unfolding decimal_byte
 above {b} h = rw (le-leb 48 b (omega arith), lt-leb b 57 h)
 
 returns : tie.Need-returns
@@ -30,5 +30,5 @@ returns-2 c = search (under, above, rules)
 returns-3 : tie.Need-returns-3
 returns-3 c = search (under, above, rules)
 
-pub is-decimal-spec : {M : Type 1} → statement M
-is-decimal-spec = tie.close (tie.spec returns returns-2 returns-3)
+pub is_decimal_spec : {M : Type 1} → statement M
+is_decimal_spec = tie.close (tie.spec returns returns-2 returns-3)

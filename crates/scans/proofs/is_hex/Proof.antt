@@ -5,28 +5,28 @@ use Prim.Native.Nat.{ℕ, ◌≤◌, ◌<◌}
 use native.Mathlib.Omega.{arith}
 use borrow.Author.Rules.{rules}
 use borrow.Author.Tests.{le-leb, lt-leb}
-use Rattle.scans.specs.Bytes.{hexByte}
+use Rattle.scans.specs.Bytes.{hex_byte}
 use Rattle.scans.proofs.is_hex.Statement.{statement}
 use Rattle.scans.proofs.is_hex.Tie as tie
 
-digit : {b : ℕ} → 48 ≤ b → b < 58 → true ≡ hexByte b
-unfolding hexByte
+digit : {b : ℕ} → 48 ≤ b → b < 58 → true ≡ hex_byte b
+unfolding hex_byte
 digit {b} h g = rw (le-leb 48 b h, le-leb b 57 (omega arith))
 
-letter : {b : ℕ} → 97 ≤ b → b < 103 → true ≡ hexByte b
-unfolding hexByte
+letter : {b : ℕ} → 97 ≤ b → b < 103 → true ≡ hex_byte b
+unfolding hex_byte
 letter {b} h g = rw (lt-leb b 57 (omega arith), le-leb 97 b h, le-leb b 102 (omega arith), le-leb 48 b (omega arith))
 
-under : {b : ℕ} → b < 48 → false ≡ hexByte b
-unfolding hexByte
+under : {b : ℕ} → b < 48 → false ≡ hex_byte b
+unfolding hex_byte
 under {b} h = rw (lt-leb 48 b h, lt-leb 97 b (omega arith))
 
-between : {b : ℕ} → 57 < b → b < 97 → false ≡ hexByte b
-unfolding hexByte
+between : {b : ℕ} → 57 < b → b < 97 → false ≡ hex_byte b
+unfolding hex_byte
 between {b} h g = rw (le-leb 48 b (omega arith), lt-leb b 57 h, lt-leb 97 b g)
 
-above : {b : ℕ} → 102 < b → false ≡ hexByte b
-unfolding hexByte
+above : {b : ℕ} → 102 < b → false ≡ hex_byte b
+unfolding hex_byte
 above {b} h = rw (le-leb 48 b (omega arith), lt-leb b 57 (omega arith), le-leb 97 b (omega arith), lt-leb b 102 h)
 
 returns : tie.Need-returns
@@ -44,5 +44,5 @@ returns-4 c = search (under, between, above, rules)
 returns-5 : tie.Need-returns-5
 returns-5 c = search (under, between, above, rules)
 
-pub is-hex-spec : {M : Type 1} → statement M
-is-hex-spec = tie.close (tie.spec returns returns-2 returns-3 returns-4 returns-5)
+pub is_hex_spec : {M : Type 1} → statement M
+is_hex_spec = tie.close (tie.spec returns returns-2 returns-3 returns-4 returns-5)

@@ -30,8 +30,8 @@ returns-2 c = cc
 returns-3 : tie.Need-returns-3
 returns-3 c = cc
 
-pub is-of-spec : {M : Type 1} → statement M
-is-of-spec =
+pub is_of_spec : {M : Type 1} → statement M
+is_of_spec =
     tie.close
     (tie.spec
     enum_told

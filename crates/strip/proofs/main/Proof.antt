@@ -1,6 +1,6 @@
 -- `main` meets its contract. Assumes nothing.
 use Rattle.std.proofs.Common.{rules}
-use Rattle.strip.proofs.Inside.{long-prefix}
+use Rattle.strip.proofs.Inside.{long_prefix}
 use Rattle.strip.proofs.main.Statement.{statement}
 use Rattle.strip.proofs.main.Tie as tie
 
@@ -83,7 +83,7 @@ array-share-prefix-book : tie.Need-array-share-prefix-book
 array-share-prefix-book c = search rules
 
 slice-aggregate-run : tie.Need-slice-aggregate-run
-slice-aggregate-run c = long-prefix _ _ c.before.before.before.before.fill.ensures
+slice-aggregate-run c = long_prefix _ _ c.before.before.before.before.fill.ensures
 
 run-requires : tie.Need-run-requires
 run-requires c κs = search rules

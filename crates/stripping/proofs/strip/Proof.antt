@@ -1,6 +1,6 @@
 -- `strip` meets its contract. Assumes nothing.
 use borrow.Author.Rules.{rules}
-use Rattle.stripping.proofs.Says.{says-long, says-wide, straight-refused, straight-text}
+use Rattle.stripping.proofs.Says.{says_long, says_wide, straight_refused, straight_text}
 use Rattle.stripping.proofs.strip.Statement.{statement}
 use Rattle.stripping.proofs.strip.Tie as tie
 
@@ -8,13 +8,13 @@ refused-requires : tie.Need-refused-requires
 refused-requires c κs = search rules
 
 returns : tie.Need-returns
-returns c = search (says-long, rules)
+returns c = search (says_long, rules)
 
 refused-requires-2 : tie.Need-refused-requires-2
 refused-requires-2 c κs = search rules
 
 returns-2 : tie.Need-returns-2
-returns-2 c = search (says-wide, rules)
+returns-2 c = search (says_wide, rules)
 
 add-if3 : tie.Need-overflow-add-if3
 add-if3 c = search rules
@@ -38,16 +38,16 @@ same-length-2 : tie.Need-same-length-2
 same-length-2 c = search rules
 
 returns-4 : tie.Need-returns-4
-returns-4 c = search (straight-refused, rules)
+returns-4 c = search (straight_refused, rules)
 
 same-length-3 : tie.Need-same-length-3
 same-length-3 c = search rules
 
 returns-5 : tie.Need-returns-5
-returns-5 c = search (straight-text, rules)
+returns-5 c = search (straight_text, rules)
 
-pub strip-spec : {M : Type 1} → statement M
-strip-spec =
+pub strip_spec : {M : Type 1} → statement M
+strip_spec =
     tie.close
     (tie.spec
     refused-requires

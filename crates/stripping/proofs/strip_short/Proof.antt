@@ -1,6 +1,6 @@
 -- `strip_short` meets its contract. Assumes nothing.
 use borrow.Author.Rules.{rules}
-use Rattle.stripping.proofs.Says.{front-within, front_long, says-refused, says-no-room, says-text}
+use Rattle.stripping.proofs.Says.{front_within, front_long, says_refused, says_no_room, says_text}
 use Rattle.stripping.proofs.strip_short.Statement.{statement}
 use Rattle.stripping.proofs.strip_short.Tie as tie
 
@@ -14,16 +14,16 @@ refused-requires : tie.Need-refused-requires
 refused-requires c κs = search rules
 
 returns : tie.Need-returns
-returns c = search (says-refused, rules)
+returns c = search (says_refused, rules)
 
 refused-requires-2 : tie.Need-refused-requires-2
 refused-requires-2 c κs = search rules
 
 returns-2 : tie.Need-returns-2
-returns-2 c = search (says-no-room, rules)
+returns-2 c = search (says_no_room, rules)
 
 array-share-prefix-made : tie.Need-array-share-prefix-made
-array-share-prefix-made c = search (front-within, rules)
+array-share-prefix-made c = search (front_within, rules)
 
 slice-aggregate-put : tie.Need-slice-aggregate-put
 slice-aggregate-put c = search (front_long, rules)
@@ -35,10 +35,10 @@ same_length : tie.Need-same-length
 same_length c = search rules
 
 returns-3 : tie.Need-returns-3
-returns-3 c = search (says-text, rules)
+returns-3 c = search (says_text, rules)
 
-pub strip-short-spec : {M : Type 1} → statement M
-strip-short-spec =
+pub strip_short_spec : {M : Type 1} → statement M
+strip_short_spec =
     tie.close
     (tie.spec
     slice-aggregate-take

@@ -2,73 +2,73 @@
 use Prim.Native.Nat.{◌-◌}
 use lib.ListN.{length}
 use borrow.Author.Rules.{rules}
-use Rattle.stripping.proofs.Taking.{TakeAt, take_none, take-stopped, put-ready, place-fits, count_fits, take_less, take_on, take-end}
+use Rattle.stripping.proofs.Taking.{TakeAt, take_none, take_stopped, put_ready, place_fits, count_fits, take_less, take_on, take_end}
 use Rattle.stripping.proofs.take.Statement.{statement}
 use Rattle.stripping.proofs.take.Tie as tie
 
-abbrev invariant-loop : tie.invariant-loop
-invariant-loop text last kept out₀ ends₀ at₀ to₀ n₀ out ends at to n = TakeAt text last kept out₀ out ends at to n
+abbrev invariant_loop : tie.invariant_loop
+invariant_loop text last kept out₀ ends₀ at₀ to₀ n₀ out ends at to n = TakeAt text last kept out₀ out ends at to n
 
-abbrev decreases-loop : tie.decreases-loop
-decreases-loop text last kept out₀ ends₀ at₀ to₀ n₀ out ends at to n = length text - at
+abbrev decreases_loop : tie.decreases_loop
+decreases_loop text last kept out₀ ends₀ at₀ to₀ n₀ out ends at to n = length text - at
 
-loop-holds : tie.Need-loop-init invariant-loop decreases-loop
+loop-holds : tie.Need-loop-init invariant_loop decreases_loop
 loop-holds c = search (take_none, rules)
 
-slice-aggregate-read-row : tie.Need-slice-aggregate-read-row invariant-loop decreases-loop
+slice-aggregate-read-row : tie.Need-slice-aggregate-read-row invariant_loop decreases_loop
 slice-aggregate-read-row c = search rules
 
-read-row-requires : tie.Need-read-row-requires invariant-loop decreases-loop
+read-row-requires : tie.Need-read-row-requires invariant_loop decreases_loop
 read-row-requires c κs = search rules
 
-fitted-requires : tie.Need-fitted-requires invariant-loop decreases-loop
+fitted-requires : tie.Need-fitted-requires invariant_loop decreases_loop
 fitted-requires c κs = search rules
 
-enum-known-size : tie.Need-enum-known-size invariant-loop decreases-loop
+enum-known-size : tie.Need-enum-known-size invariant_loop decreases_loop
 enum-known-size c = search rules
 
-refuses-requires : tie.Need-refuses-requires invariant-loop decreases-loop
+refuses-requires : tie.Need-refuses-requires invariant_loop decreases_loop
 refuses-requires c κs = search rules
 
-same_length : tie.Need-same-length invariant-loop decreases-loop
+same_length : tie.Need-same-length invariant_loop decreases_loop
 same_length c = search rules
 
-returns : tie.Need-returns invariant-loop decreases-loop
-returns c = search (take-stopped, rules)
+returns : tie.Need-returns invariant_loop decreases_loop
+returns c = search (take_stopped, rules)
 
-slice-aggregate-put-row : tie.Need-slice-aggregate-put-row invariant-loop decreases-loop
+slice-aggregate-put-row : tie.Need-slice-aggregate-put-row invariant_loop decreases_loop
 slice-aggregate-put-row c = search rules
 
-put-row-requires : tie.Need-put-row-requires invariant-loop decreases-loop
+put-row-requires : tie.Need-put-row-requires invariant_loop decreases_loop
 put-row-requires c κs =
-    put-ready c.before.before.before.before.before.before.before.before.before.before.loop.invariant (search rules)
+    put_ready c.before.before.before.before.before.before.before.before.before.before.loop.invariant (search rules)
     c.before.before.before.before.before.before.before.read-row.ensures c.before.before.before.before.before.fitted.ensures
     c.before.before.before.size.given.1
 
-add_at : tie.Need-overflow-add-at invariant-loop decreases-loop
-add_at c = search (place-fits, rules)
+add_at : tie.Need-overflow-add-at invariant_loop decreases_loop
+add_at c = search (place_fits, rules)
 
-add-n : tie.Need-overflow-add-n invariant-loop decreases-loop
+add-n : tie.Need-overflow-add-n invariant_loop decreases_loop
 add-n c = search (count_fits, rules)
 
-loop-less : tie.Need-loop-smaller invariant-loop decreases-loop
+loop-less : tie.Need-loop-smaller invariant_loop decreases_loop
 loop-less c = search (take_less, rules)
 
-loop-again : tie.Need-loop-preserved invariant-loop decreases-loop
+loop-again : tie.Need-loop-preserved invariant_loop decreases_loop
 loop-again c = search (take_on, rules)
 
-same-length-2 : tie.Need-same-length-2 invariant-loop decreases-loop
+same-length-2 : tie.Need-same-length-2 invariant_loop decreases_loop
 same-length-2 c = search rules
 
-returns-2 : tie.Need-returns-2 invariant-loop decreases-loop
-returns-2 c = search (take-end, rules)
+returns-2 : tie.Need-returns-2 invariant_loop decreases_loop
+returns-2 c = search (take_end, rules)
 
 pub take_spec : {M : Type 1} → statement M
 take_spec =
     tie.close
     (tie.spec
-    invariant-loop
-    decreases-loop
+    invariant_loop
+    decreases_loop
     loop-holds
     slice-aggregate-read-row
     read-row-requires

@@ -8,16 +8,16 @@ use borrow.Author.Rules.{rules}
 use borrow.Author.Tests.{lt-ltb, le-ltb}
 use Rattle.scans.specs.Ascii.{digit0}
 use Rattle.scans.specs.Bytes.{byte_at}
-use Rattle.tokens.specs.Tokens.{leadingZero}
+use Rattle.tokens.specs.Tokens.{leading_zero}
 use Rattle.tokens.proofs.leading_zero.Statement.{statement}
 use Rattle.tokens.proofs.leading_zero.Tie as tie
 
-single : (l : List ℕ) (n : ℕ) → n ≤ 1 → false ≡ leadingZero l n
-unfolding leadingZero
+single : (l : List ℕ) (n : ℕ) → n ≤ 1 → false ≡ leading_zero l n
+unfolding leading_zero
 single l n h = rw (le-ltb 1 n h)
 
-several : (l : List ℕ) (n b : ℕ) → 1 < n → b ≡ byte_at l → eqb b digit0 ≡ leadingZero l n
-unfolding leadingZero
+several : (l : List ℕ) (n b : ℕ) → 1 < n → b ≡ byte_at l → eqb b digit0 ≡ leading_zero l n
+unfolding leading_zero
 several l n b h e = rw (e, lt-ltb 1 n h)
 
 returns : tie.Need-returns
@@ -29,5 +29,5 @@ byte-at-requires c κs = search rules
 returns-2 : tie.Need-returns-2
 returns-2 c = search (several, rules)
 
-pub leading-zero-spec : {M : Type 1} → statement M
-leading-zero-spec = tie.close (tie.spec returns byte-at-requires returns-2)
+pub leading_zero_spec : {M : Type 1} → statement M
+leading_zero_spec = tie.close (tie.spec returns byte-at-requires returns-2)

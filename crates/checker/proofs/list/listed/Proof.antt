@@ -1,6 +1,6 @@
 -- `checker::list::listed` meets its contract.
 -- Assumes nothing.
-use Rattle.checker.proofs.Walking.{count-all, count_none}
+use Rattle.checker.proofs.Walking.{count_all, count_none}
 use borrow.Author.Rules.{rules}
 use Rattle.checker.proofs.list.listed.Statement.{statement}
 use Rattle.checker.proofs.list.listed.Tie as tie
@@ -9,10 +9,10 @@ sizes-ok-requires : tie.Need-sizes-ok-requires
 sizes-ok-requires c κs = search rules
 
 returns : tie.Need-returns
-returns c = search (count-all, rules)
+returns c = search (count_all, rules)
 
 returns-2 : tie.Need-returns-2
 returns-2 c = search (count_none, rules)
 
-pub listed-spec : {M : Type 1} → statement M
-listed-spec = tie.close (tie.spec sizes-ok-requires returns returns-2)
+pub listed_spec : {M : Type 1} → statement M
+listed_spec = tie.close (tie.spec sizes-ok-requires returns returns-2)

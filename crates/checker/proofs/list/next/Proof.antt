@@ -14,5 +14,5 @@ unmet-after-requires c κs = search rules
 returns : tie.Need-returns
 returns c = search (goes_on, rules)
 
-pub next-spec : {M : Type 1} → statement M
-next-spec = tie.close (tie.spec stands-requires unmet-after-requires returns)
+pub next_spec : {M : Type 1} → statement M
+next_spec = tie.close (tie.spec stands-requires unmet-after-requires returns)

@@ -5,22 +5,22 @@ use native.Mathlib.Omega.{arith}
 use borrow.Author.Rules.{rules}
 use lib.Bits.{bit_and}
 use Rattle.classes.specs.declared.Class.{Class}
-use Rattle.classes.specs.Class.{class_of, commonOf}
+use Rattle.classes.specs.Class.{class_of, common_of}
 use Rattle.classes.proofs.Bits.{and_word}
 use Rattle.classes.proofs.Class.common.Statement.{statement}
 use Rattle.classes.proofs.Class.common.Tie as tie
 
 -- The smaller level with `&` of the marks is the common part.
-and-is-common : (x y : Class) (l : ℕ) → l ≡ min x.level y.level → x.marks < 2 ^ 64 → y.marks < 2 ^ 64
-    → class_of l (bit_and x.marks y.marks) ≡ commonOf x y
-unfolding commonOf
-and-is-common x y l e h g = ap₂ class_of (omega arith) (and_word 64 x.marks y.marks h g)
+and_is_common : (x y : Class) (l : ℕ) → l ≡ min x.level y.level → x.marks < 2 ^ 64 → y.marks < 2 ^ 64
+    → class_of l (bit_and x.marks y.marks) ≡ common_of x y
+unfolding common_of
+and_is_common x y l e h g = ap₂ class_of (omega arith) (and_word 64 x.marks y.marks h g)
 
 smaller-requires : tie.Need-smaller-requires
 smaller-requires c κs = search rules
 
 returns : tie.Need-returns
-returns c = search (and-is-common, rules)
+returns c = search (and_is_common, rules)
 
-pub common-spec : {M : Type 1} → statement M
-common-spec = tie.close (tie.spec smaller-requires returns)
+pub common_spec : {M : Type 1} → statement M
+common_spec = tie.close (tie.spec smaller-requires returns)

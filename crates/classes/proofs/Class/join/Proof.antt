@@ -11,16 +11,16 @@ use Rattle.classes.proofs.Class.join.Statement.{statement}
 use Rattle.classes.proofs.Class.join.Tie as tie
 
 -- The greater level with `|` of the marks is the join.
-or-joins : (x y : Class) (l : ℕ) → l ≡ max x.level y.level → x.marks < 2 ^ 64 → y.marks < 2 ^ 64
+or_joins : (x y : Class) (l : ℕ) → l ≡ max x.level y.level → x.marks < 2 ^ 64 → y.marks < 2 ^ 64
     → class_of l (bit_or x.marks y.marks) ≡ joined x y
 unfolding joined
-or-joins x y l e h g = ap₂ class_of (omega arith) (or_word 64 x.marks y.marks h g)
+or_joins x y l e h g = ap₂ class_of (omega arith) (or_word 64 x.marks y.marks h g)
 
 greater-requires : tie.Need-greater-requires
 greater-requires c κs = search rules
 
 returns : tie.Need-returns
-returns c = search (or-joins, rules)
+returns c = search (or_joins, rules)
 
-pub join-spec : {M : Type 1} → statement M
-join-spec = tie.close (tie.spec greater-requires returns)
+pub join_spec : {M : Type 1} → statement M
+join_spec = tie.close (tie.spec greater-requires returns)

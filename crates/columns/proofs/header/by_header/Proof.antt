@@ -1,6 +1,6 @@
 -- `by_header` meets its contract. Assumes nothing.
 use borrow.Author.Rules.{rules}
-use Rattle.columns.proofs.Heads.{by-other, head_few, by-kept}
+use Rattle.columns.proofs.Heads.{by_other, head_few, by_kept}
 use Rattle.columns.proofs.header.by_header.Statement.{statement}
 use Rattle.columns.proofs.header.by_header.Tie as tie
 
@@ -14,7 +14,7 @@ enum-known-found : tie.Need-enum-known-found
 enum-known-found c = search rules
 
 returns : tie.Need-returns
-returns c = search (by-other, rules)
+returns c = search (by_other, rules)
 
 slice-aggregate-keep : tie.Need-slice-aggregate-keep
 slice-aggregate-keep c = search rules
@@ -26,10 +26,10 @@ same_length : tie.Need-same-length
 same_length c = search rules
 
 returns-2 : tie.Need-returns-2
-returns-2 c = search (by-kept, rules)
+returns-2 c = search (by_kept, rules)
 
-pub by-header-spec : {M : Type 1} → statement M
-by-header-spec =
+pub by_header_spec : {M : Type 1} → statement M
+by_header_spec =
     tie.close
     (tie.spec
     slice-aggregate-read-header

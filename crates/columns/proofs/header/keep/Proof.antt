@@ -1,6 +1,6 @@
 -- `keep` meets its contract. Assumes nothing.
 use borrow.Author.Rules.{rules}
-use Rattle.columns.proofs.Heads.{keep-roomless, keep_all}
+use Rattle.columns.proofs.Heads.{keep_roomless, keep_all}
 use Rattle.columns.proofs.header.keep.Statement.{statement}
 use Rattle.columns.proofs.header.keep.Tie as tie
 
@@ -8,7 +8,7 @@ refused-requires : tie.Need-refused-requires
 refused-requires c κs = search rules
 
 returns : tie.Need-returns
-returns c = search (keep-roomless, rules)
+returns c = search (keep_roomless, rules)
 
 cover-requires : tie.Need-cover-requires
 cover-requires c κs = search rules

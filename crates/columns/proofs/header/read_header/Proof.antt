@@ -1,6 +1,6 @@
 -- `read_header` meets its contract: no bytes, a whole header with good names or not, an unfinished one, none. Assumes nothing.
 use borrow.Author.Rules.{rules}
-use Rattle.columns.proofs.Heads.{head-none, head-empty, head-ready, head-good, head-unknown, head_more, head-bad}
+use Rattle.columns.proofs.Heads.{head_none, head_empty, head_ready, head_good, head_unknown, head_more, head_bad}
 use Rattle.columns.proofs.header.read_header.Statement.{statement}
 use Rattle.columns.proofs.header.read_header.Tie as tie
 
@@ -8,10 +8,10 @@ refused-requires : tie.Need-refused-requires
 refused-requires c κs = search rules
 
 returns : tie.Need-returns
-returns c = search (head-none, rules)
+returns c = search (head_none, rules)
 
 returns-2 : tie.Need-returns-2
-returns-2 c = search (head-empty, rules)
+returns-2 c = search (head_empty, rules)
 
 slice-aggregate-read-row : tie.Need-slice-aggregate-read-row
 slice-aggregate-read-row c = search rules
@@ -27,7 +27,7 @@ slice-aggregate-find-items c = search rules
 
 find-items-requires : tie.Need-find-items-requires
 find-items-requires c κs =
-    head-ready c.before.before.before.before.before.before.read-row.ensures (search rules)
+    head_ready c.before.before.before.before.before.before.read-row.ensures (search rules)
     c.before.before.before.before.before.before.before.before.if1.false c.before.before.before.header.given.1 (search rules)
 
 refused-requires-2 : tie.Need-refused-requires-2
@@ -46,22 +46,22 @@ same_length : tie.Need-same-length
 same_length c = search rules
 
 returns-3 : tie.Need-returns-3
-returns-3 c = search (head-good, rules)
+returns-3 c = search (head_good, rules)
 
 same-length-2 : tie.Need-same-length-2
 same-length-2 c = search rules
 
 returns-4 : tie.Need-returns-4
-returns-4 c = search (head-unknown, rules)
+returns-4 c = search (head_unknown, rules)
 
 returns-5 : tie.Need-returns-5
 returns-5 c = search (head_more, rules)
 
 returns-6 : tie.Need-returns-6
-returns-6 c = search (head-bad, rules)
+returns-6 c = search (head_bad, rules)
 
-pub read-header-spec : {M : Type 1} → statement M
-read-header-spec =
+pub read_header_spec : {M : Type 1} → statement M
+read_header_spec =
     tie.close
     (tie.spec
     refused-requires

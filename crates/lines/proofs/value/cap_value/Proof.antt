@@ -1,6 +1,6 @@
 -- `cap_value` meets its contract. Assumes nothing.
 use borrow.Author.Rules.{rules}
-use Rattle.lines.proofs.Told.{cap-bad, cap-room, cap-found}
+use Rattle.lines.proofs.Told.{cap_bad, cap_room, cap_found}
 use Rattle.lines.proofs.value.cap_value.Statement.{statement}
 use Rattle.lines.proofs.value.cap_value.Tie as tie
 
@@ -14,15 +14,15 @@ enum_told : tie.Need-enum-told
 enum_told c = search rules
 
 returns : tie.Need-returns
-returns c = search (cap-bad, rules)
+returns c = search (cap_bad, rules)
 
 with-class-requires : tie.Need-with-class-requires
-with-class-requires c κs = search (cap-room, rules)
+with-class-requires c κs = search (cap_room, rules)
 
 returns-2 : tie.Need-returns-2
-returns-2 c = search (cap-found, rules)
+returns-2 c = search (cap_found, rules)
 
-pub cap-value-spec : {M : Type 1} → statement M
-cap-value-spec =
+pub cap_value_spec : {M : Type 1} → statement M
+cap_value_spec =
     tie.close
     (tie.spec read-name-requires enum-known-n enum_told returns with-class-requires returns-2)

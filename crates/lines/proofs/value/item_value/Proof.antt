@@ -1,6 +1,6 @@
 -- `item_value` meets its contract. Assumes nothing.
 use borrow.Author.Rules.{rules}
-use Rattle.lines.proofs.Told.{item-bad, item-found}
+use Rattle.lines.proofs.Told.{item_bad, item_found}
 use Rattle.lines.proofs.value.item_value.Statement.{statement}
 use Rattle.lines.proofs.value.item_value.Tie as tie
 
@@ -14,10 +14,10 @@ enum_told : tie.Need-enum-told
 enum_told c = search rules
 
 returns : tie.Need-returns
-returns c = search (item-bad, rules)
+returns c = search (item_bad, rules)
 
 returns-2 : tie.Need-returns-2
-returns-2 c = search (item-found, rules)
+returns-2 c = search (item_found, rules)
 
-pub item-value-spec : {M : Type 1} → statement M
-item-value-spec = tie.close (tie.spec read-name-requires enum-known-n enum_told returns returns-2)
+pub item_value_spec : {M : Type 1} → statement M
+item_value_spec = tie.close (tie.spec read-name-requires enum-known-n enum_told returns returns-2)

@@ -40,25 +40,25 @@ end-value-requires : tie.Need-end-value-requires
 end-value-requires c κs = search rules
 
 returns : tie.Need-returns
-returns c = rw c.before.enum_told.given.1 c.form-value.ensures
+returns c = rw c.before.enum_told.given.1 c.form_value.ensures
 
 returns-2 : tie.Need-returns-2
-returns-2 c = rw c.before.enum-told2.given.1 c.item-value.ensures
+returns-2 c = rw c.before.enum-told2.given.1 c.item_value.ensures
 
 returns-3 : tie.Need-returns-3
-returns-3 c = rw c.before.enum-told3.given.1 c.cap-value.ensures
+returns-3 c = rw c.before.enum-told3.given.1 c.cap_value.ensures
 
 returns-4 : tie.Need-returns-4
-returns-4 c = rw c.before.enum-told4.given.1 c.floor-value.ensures
+returns-4 c = rw c.before.enum-told4.given.1 c.floor_value.ensures
 
 returns-5 : tie.Need-returns-5
-returns-5 c = rw c.before.enum-told5.given.1 c.follow-value.ensures
+returns-5 c = rw c.before.enum-told5.given.1 c.follow_value.ensures
 
 returns-6 : tie.Need-returns-6
-returns-6 c = rw c.before.enum-told6.given.1 c.end-value.ensures
+returns-6 c = rw c.before.enum-told6.given.1 c.end_value.ensures
 
-pub read-value-spec : {M : Type 1} → statement M
-read-value-spec =
+pub read_value_spec : {M : Type 1} → statement M
+read_value_spec =
     tie.close
     (tie.spec
     enum_told

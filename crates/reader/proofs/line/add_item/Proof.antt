@@ -1,11 +1,11 @@
 -- `add_item` meets its contract. Assumes nothing.
-use Rattle.reader.proofs.Adding.{item-full, item-twice, item-new}
+use Rattle.reader.proofs.Adding.{item_full, item_twice, item_new}
 use borrow.Author.Rules.{rules}
 use Rattle.reader.proofs.line.add_item.Statement.{statement}
 use Rattle.reader.proofs.line.add_item.Tie as tie
 
 returns : tie.Need-returns
-returns c = search (item-full, rules)
+returns c = search (item_full, rules)
 
 find-requires : tie.Need-find-requires
 find-requires c κs = search rules
@@ -17,7 +17,7 @@ same_length : tie.Need-same-length
 same_length c = search rules
 
 returns-2 : tie.Need-returns-2
-returns-2 c = search (item-twice, rules)
+returns-2 c = search (item_twice, rules)
 
 mul-put : tie.Need-overflow-mul-put
 mul-put c = search rules
@@ -29,10 +29,10 @@ same-length-2 : tie.Need-same-length-2
 same-length-2 c = search rules
 
 returns-3 : tie.Need-returns-3
-returns-3 c = search (item-new, rules)
+returns-3 c = search (item_new, rules)
 
-pub add-item-spec : {M : Type 1} → statement M
-add-item-spec =
+pub add_item_spec : {M : Type 1} → statement M
+add_item_spec =
     tie.close
     (tie.spec
     returns

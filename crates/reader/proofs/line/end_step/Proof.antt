@@ -1,5 +1,5 @@
 -- `end_step` meets its contract. Assumes nothing.
-use Rattle.reader.proofs.Turns.{line-inside, line-short, end-wrong, end_more, end-right}
+use Rattle.reader.proofs.Turns.{line_inside, line_short, end_wrong, end_more, end_right}
 use borrow.Author.Rules.{rules}
 use Rattle.reader.proofs.line.end_step.Statement.{statement}
 use Rattle.reader.proofs.line.end_step.Tie as tie
@@ -8,13 +8,13 @@ stopped-requires : tie.Need-stopped-requires
 stopped-requires c κs = search rules
 
 returns : tie.Need-returns
-returns c = search (end-wrong, rules)
+returns c = search (end_wrong, rules)
 
 sub-if2 : tie.Need-overflow-sub-if2
-sub-if2 c = search (line-inside, rules)
+sub-if2 c = search (line_inside, rules)
 
 line-len-requires : tie.Need-line-len-requires
-line-len-requires c κs = search (line-short, rules)
+line-len-requires c κs = search (line_short, rules)
 
 add-refused : tie.Need-overflow-add-refused
 add-refused c = search rules
@@ -26,10 +26,10 @@ returns-2 : tie.Need-returns-2
 returns-2 c = search (end_more, rules)
 
 returns-3 : tie.Need-returns-3
-returns-3 c = search (end-right, rules)
+returns-3 c = search (end_right, rules)
 
-pub end-step-spec : {M : Type 1} → statement M
-end-step-spec =
+pub end_step_spec : {M : Type 1} → statement M
+end_step_spec =
     tie.close
     (tie.spec
     stopped-requires

@@ -19,5 +19,5 @@ line-len-requires c κs = search rules
 returns : tie.Need-returns
 returns c = rw (c.before.key-number.ensures, c.line-len.ensures)
 
-pub went-spec : {M : Type 1} → statement M
-went-spec = tie.close (tie.spec add-t7 key-number-requires add-t9 line-len-requires returns)
+pub went_spec : {M : Type 1} → statement M
+went_spec = tie.close (tie.spec add-t7 key-number-requires add-t9 line-len-requires returns)

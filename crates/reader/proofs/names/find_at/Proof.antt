@@ -31,8 +31,8 @@ find-requires c κs = search rules
 returns : tie.Need-returns
 returns c = search (found_at, rules)
 
-pub find-at-spec : {M : Type 1} → statement M
-find-at-spec =
+pub find_at_spec : {M : Type 1} → statement M
+find_at_spec =
     tie.close
     (tie.spec
     at-most-requires

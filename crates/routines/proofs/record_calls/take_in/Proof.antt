@@ -6,54 +6,54 @@ use borrow.Author.Rules.{rules}
 use Rattle.routines.proofs.record_calls.take_in.Statement.{statement}
 use Rattle.routines.proofs.record_calls.take_in.Tie as tie
 
-abbrev invariant-loop : tie.invariant-loop
-invariant-loop words places₀ i₀ places i = length places ≡ length places₀
+abbrev invariant_loop : tie.invariant_loop
+invariant_loop words places₀ i₀ places i = length places ≡ length places₀
 
-abbrev decreases-loop : tie.decreases-loop
-decreases-loop words places₀ i₀ places i = length words - i
+abbrev decreases_loop : tie.decreases_loop
+decreases_loop words places₀ i₀ places i = length words - i
 
-loop-holds : tie.Need-loop-init invariant-loop decreases-loop
+loop-holds : tie.Need-loop-init invariant_loop decreases_loop
 loop-holds c = search rules
 
-same_length : tie.Need-same-length invariant-loop decreases-loop
+same_length : tie.Need-same-length invariant_loop decreases_loop
 same_length c = search rules
 
-returns : tie.Need-returns invariant-loop decreases-loop
+returns : tie.Need-returns invariant_loop decreases_loop
 returns c = search rules
 
-mul-places : tie.Need-overflow-mul-places invariant-loop decreases-loop
+mul-places : tie.Need-overflow-mul-places invariant_loop decreases_loop
 mul-places c = search rules
 
-shared-slice-read-places : tie.Need-shared-slice-read-places invariant-loop decreases-loop
+shared-slice-read-places : tie.Need-shared-slice-read-places invariant_loop decreases_loop
 shared-slice-read-places c = search rules
 
-mul-places-2 : tie.Need-overflow-mul-places-2 invariant-loop decreases-loop
+mul-places-2 : tie.Need-overflow-mul-places-2 invariant_loop decreases_loop
 mul-places-2 c = search rules
 
-slice-write-places : tie.Need-slice-write-places invariant-loop decreases-loop
+slice-write-places : tie.Need-slice-write-places invariant_loop decreases_loop
 slice-write-places c = search rules
 
-add-i : tie.Need-overflow-add-i invariant-loop decreases-loop
+add-i : tie.Need-overflow-add-i invariant_loop decreases_loop
 add-i c = search rules
 
-loop-less : tie.Need-loop-smaller invariant-loop decreases-loop
+loop-less : tie.Need-loop-smaller invariant_loop decreases_loop
 loop-less c = search rules
 
-loop-again : tie.Need-loop-preserved invariant-loop decreases-loop
+loop-again : tie.Need-loop-preserved invariant_loop decreases_loop
 loop-again c = search rules
 
-same-length-2 : tie.Need-same-length-2 invariant-loop decreases-loop
+same-length-2 : tie.Need-same-length-2 invariant_loop decreases_loop
 same-length-2 c = search rules
 
-returns-2 : tie.Need-returns-2 invariant-loop decreases-loop
+returns-2 : tie.Need-returns-2 invariant_loop decreases_loop
 returns-2 c = search rules
 
-pub take-in-spec : {M : Type 1} → statement M
-take-in-spec =
+pub take_in_spec : {M : Type 1} → statement M
+take_in_spec =
     tie.close
     (tie.spec
-    invariant-loop
-    decreases-loop
+    invariant_loop
+    decreases_loop
     loop-holds
     same_length
     returns

@@ -8,5 +8,5 @@ use Rattle.solver.proofs.blocks.either.Lts as lts
 returns : tie.Need-returns
 returns c = search rules
 
-pub either-spec : {M : Type 1} → statement M
-either-spec = tie.close (tie.spec returns)
+pub either_spec : {M : Type 1} → statement M
+either_spec = tie.close (tie.spec returns)

@@ -25,6 +25,6 @@ add-result c = search rules
 returns-2 : tie.Need-returns-2
 returns-2 c = search rules
 
-pub first-block-spec : {M : Type 1} → statement M
-first-block-spec =
+pub first_block_spec : {M : Type 1} → statement M
+first_block_spec =
     tie.close (tie.spec lowest-mark-requires returns lowest-mark-requires-2 add-result returns-2)

@@ -12,5 +12,5 @@ shl-result c = search rules
 returns : tie.Need-returns
 returns c = search rules
 
-pub one-bit-spec : {M : Type 1} → statement M
-one-bit-spec = tie.close (tie.spec shl-result returns)
+pub one_bit_spec : {M : Type 1} → statement M
+one_bit_spec = tie.close (tie.spec shl-result returns)

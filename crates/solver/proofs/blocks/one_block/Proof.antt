@@ -21,5 +21,5 @@ one-bit-requires-2 c κs = search rules
 returns-2 : tie.Need-returns-2
 returns-2 c = search rules
 
-pub one-block-spec : {M : Type 1} → statement M
-one-block-spec = tie.close (tie.spec one-bit-requires returns one-bit-requires-2 returns-2)
+pub one_block_spec : {M : Type 1} → statement M
+one_block_spec = tie.close (tie.spec one-bit-requires returns one-bit-requires-2 returns-2)

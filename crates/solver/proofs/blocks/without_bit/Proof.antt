@@ -13,5 +13,5 @@ one-bit-requires c κs = search rules
 returns : tie.Need-returns
 returns c = search rules
 
-pub without-bit-spec : {M : Type 1} → statement M
-without-bit-spec = tie.close (tie.spec one-bit-requires returns)
+pub without_bit_spec : {M : Type 1} → statement M
+without_bit_spec = tie.close (tie.spec one-bit-requires returns)

@@ -21,6 +21,6 @@ without-bit-requires-2 c κs = search rules
 returns-2 : tie.Need-returns-2
 returns-2 c = search rules
 
-pub without-block-spec : {M : Type 1} → statement M
-without-block-spec =
+pub without_block_spec : {M : Type 1} → statement M
+without_block_spec =
     tie.close (tie.spec without-bit-requires returns without-bit-requires-2 returns-2)

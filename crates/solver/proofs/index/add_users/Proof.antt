@@ -52,8 +52,8 @@ same_length c = search rules
 returns : tie.Need-returns
 returns c = search rules
 
-pub add-users-spec : {M : Type 1} → statement M
-add-users-spec =
+pub add_users_spec : {M : Type 1} → statement M
+add_users_spec =
     tie.close
     (tie.spec
     mul-users

@@ -5,46 +5,46 @@ use Rattle.solver.proofs.index.index.Reads as reads
 use Rattle.solver.proofs.index.index.Lts as lts
 use Rattle.solver.proofs.index.index_block.Reads as index-block-reads
 
-abbrev invariant-loop : tie.invariant-loop
-invariant-loop rules head size users₀ k₀ users k = ?
+abbrev invariant_loop : tie.invariant_loop
+invariant_loop rules head size users₀ k₀ users k = ?
 
-abbrev decreases-loop : tie.decreases-loop
-decreases-loop rules head size users₀ k₀ users k = ?
+abbrev decreases_loop : tie.decreases_loop
+decreases_loop rules head size users₀ k₀ users k = ?
 
 -- src/index.rt:89:5
-loop-holds : tie.Need-loop-init invariant-loop decreases-loop
+loop-holds : tie.Need-loop-init invariant_loop decreases_loop
 loop-holds c = search rules
 
 -- src/index.rt:90:9
-index-block-requires : tie.Need-index-block-requires invariant-loop decreases-loop
+index-block-requires : tie.Need-index-block-requires invariant_loop decreases_loop
 index-block-requires c κs = search rules
 
 -- src/index.rt:91:9
-add-k : tie.Need-overflow-add-k invariant-loop decreases-loop
+add-k : tie.Need-overflow-add-k invariant_loop decreases_loop
 add-k c = search rules
 
 -- src/index.rt:89:5
-loop-less : tie.Need-loop-smaller invariant-loop decreases-loop
+loop-less : tie.Need-loop-smaller invariant_loop decreases_loop
 loop-less c = search rules
 
 -- src/index.rt:89:5
-loop-again : tie.Need-loop-preserved invariant-loop decreases-loop
+loop-again : tie.Need-loop-preserved invariant_loop decreases_loop
 loop-again c = search rules
 
 -- src/index.rt:84:1
-same_length : tie.Need-same-length invariant-loop decreases-loop
+same_length : tie.Need-same-length invariant_loop decreases_loop
 same_length c = search rules
 
 -- src/index.rt:84:1
-returns : tie.Need-returns invariant-loop decreases-loop
+returns : tie.Need-returns invariant_loop decreases_loop
 returns c = search rules
 
-pub index-spec : {M : Type 1} → statement M
-index-spec =
+pub index_spec : {M : Type 1} → statement M
+index_spec =
     tie.close
     (tie.spec
-    invariant-loop
-    decreases-loop
+    invariant_loop
+    decreases_loop
     loop-holds
     index-block-requires
     add-k

@@ -1,5 +1,5 @@
 -- `settle::bounded_item` meets its contract. Assumes nothing.
-use Rattle.solver.proofs.Looking.{cap-item, follow-item}
+use Rattle.solver.proofs.Looking.{cap_item, follow_item}
 use borrow.Author.Rules.{rules}
 use Rattle.solver.proofs.settle.bounded_item.Statement.{statement}
 use Rattle.solver.proofs.settle.bounded_item.Tie as tie
@@ -17,7 +17,7 @@ shared-slice-read-result : tie.Need-shared-slice-read-result
 shared-slice-read-result c = search rules
 
 returns : tie.Need-returns
-returns c = search (cap-item, rules)
+returns c = search (cap_item, rules)
 
 add-result-2 : tie.Need-overflow-add-result-2
 add-result-2 c = search rules
@@ -29,10 +29,10 @@ shared-slice-read-result-2 : tie.Need-shared-slice-read-result-2
 shared-slice-read-result-2 c = search rules
 
 returns-2 : tie.Need-returns-2
-returns-2 c = search (follow-item, rules)
+returns-2 c = search (follow_item, rules)
 
-pub bounded-item-spec : {M : Type 1} → statement M
-bounded-item-spec =
+pub bounded_item_spec : {M : Type 1} → statement M
+bounded_item_spec =
     tie.close
     (tie.spec
     mul_at

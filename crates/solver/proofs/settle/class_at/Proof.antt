@@ -1,5 +1,5 @@
 -- `settle::class_at` meets its contract. Assumes nothing.
-use Rattle.solver.proofs.Looking.{class-read}
+use Rattle.solver.proofs.Looking.{class_read}
 use borrow.Author.Rules.{rules}
 use Rattle.solver.proofs.settle.class_at.Statement.{statement}
 use Rattle.solver.proofs.settle.class_at.Tie as tie
@@ -29,10 +29,10 @@ new-requires : tie.Need-new-requires
 new-requires c κs = search rules
 
 returns : tie.Need-returns
-returns c = search (class-read, rules)
+returns c = search (class_read, rules)
 
-pub class-at-spec : {M : Type 1} → statement M
-class-at-spec =
+pub class_at_spec : {M : Type 1} → statement M
+class_at_spec =
     tie.close
     (tie.spec
     mul_at

@@ -1,5 +1,5 @@
 -- `settle::fall` meets its contract. Assumes nothing.
-use Rattle.solver.proofs.Waking.{fell-made}
+use Rattle.solver.proofs.Waking.{fell_made}
 use borrow.Author.Rules.{rules}
 use Rattle.solver.proofs.settle.fall.Statement.{statement}
 use Rattle.solver.proofs.settle.fall.Tie as tie
@@ -26,10 +26,10 @@ same-length-2 : tie.Need-same-length-2
 same-length-2 c = search rules
 
 returns : tie.Need-returns
-returns c = search (fell-made, c.before.before.before.slice-known.given, rules)
+returns c = search (fell_made, c.before.before.before.slice-known.given, rules)
 
-pub fall-spec : {M : Type 1} → statement M
-fall-spec =
+pub fall_spec : {M : Type 1} → statement M
+fall_spec =
     tie.close
     (tie.spec
     narrow-requires

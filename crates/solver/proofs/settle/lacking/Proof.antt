@@ -1,5 +1,5 @@
 -- `settle::lacking` meets its contract. Assumes nothing.
-use Rattle.solver.proofs.Waking.{lacks-made}
+use Rattle.solver.proofs.Waking.{lacks_made}
 use borrow.Author.Rules.{rules}
 use Rattle.solver.proofs.settle.lacking.Statement.{statement}
 use Rattle.solver.proofs.settle.lacking.Tie as tie
@@ -11,7 +11,7 @@ new-requires : tie.Need-new-requires
 new-requires c κs = search rules
 
 returns : tie.Need-returns
-returns c = search (lacks-made, rules)
+returns c = search (lacks_made, rules)
 
-pub lacking-spec : {M : Type 1} → statement M
-lacking-spec = tie.close (tie.spec asked-requires new-requires returns)
+pub lacking_spec : {M : Type 1} → statement M
+lacking_spec = tie.close (tie.spec asked-requires new-requires returns)

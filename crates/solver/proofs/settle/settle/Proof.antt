@@ -6,50 +6,50 @@ use Rattle.solver.proofs.settle.settle.Lts as lts
 use Rattle.solver.proofs.settle.goes_on.Reads as goes-on-reads
 use Rattle.solver.proofs.settle.turn.Reads as turn-reads
 
-abbrev invariant-loop : tie.invariant-loop
-invariant-loop rules head size users levels₀ marks₀ enough s₀ levels marks s = ?
+abbrev invariant_loop : tie.invariant_loop
+invariant_loop rules head size users levels₀ marks₀ enough s₀ levels marks s = ?
 
-abbrev decreases-loop : tie.decreases-loop
-decreases-loop rules head size users levels₀ marks₀ enough s₀ levels marks s = ?
+abbrev decreases_loop : tie.decreases_loop
+decreases_loop rules head size users levels₀ marks₀ enough s₀ levels marks s = ?
 
 -- src/settle.rt:261:5
-loop-holds : tie.Need-loop-init invariant-loop decreases-loop
+loop-holds : tie.Need-loop-init invariant_loop decreases_loop
 loop-holds c = search rules
 
 -- src/settle.rt:261:11
-goes-on-requires : tie.Need-goes-on-requires invariant-loop decreases-loop
+goes-on-requires : tie.Need-goes-on-requires invariant_loop decreases_loop
 goes-on-requires c κs = search rules
 
 -- src/settle.rt:262:9
-turn-requires : tie.Need-turn-requires invariant-loop decreases-loop
+turn-requires : tie.Need-turn-requires invariant_loop decreases_loop
 turn-requires c κs = search rules
 
 -- src/settle.rt:261:5
-loop-less : tie.Need-loop-smaller invariant-loop decreases-loop
+loop-less : tie.Need-loop-smaller invariant_loop decreases_loop
 loop-less c = search rules
 
 -- src/settle.rt:261:5
-loop-again : tie.Need-loop-preserved invariant-loop decreases-loop
+loop-again : tie.Need-loop-preserved invariant_loop decreases_loop
 loop-again c = search rules
 
 -- src/settle.rt:247:1
-same_length : tie.Need-same-length invariant-loop decreases-loop
+same_length : tie.Need-same-length invariant_loop decreases_loop
 same_length c = search rules
 
 -- src/settle.rt:247:1
-same-length-2 : tie.Need-same-length-2 invariant-loop decreases-loop
+same-length-2 : tie.Need-same-length-2 invariant_loop decreases_loop
 same-length-2 c = search rules
 
 -- src/settle.rt:247:1
-returns : tie.Need-returns invariant-loop decreases-loop
+returns : tie.Need-returns invariant_loop decreases_loop
 returns c = search rules
 
-pub settle-spec : {M : Type 1} → statement M
-settle-spec =
+pub settle_spec : {M : Type 1} → statement M
+settle_spec =
     tie.close
     (tie.spec
-    invariant-loop
-    decreases-loop
+    invariant_loop
+    decreases_loop
     loop-holds
     goes-on-requires
     turn-requires

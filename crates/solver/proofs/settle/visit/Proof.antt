@@ -87,8 +87,8 @@ same-length-6 c = search rules
 returns-3 : tie.Need-returns-3
 returns-3 c = search rules
 
-pub visit-spec : {M : Type 1} → statement M
-visit-spec =
+pub visit_spec : {M : Type 1} → statement M
+visit_spec =
     tie.close
     (tie.spec
     mul-kind

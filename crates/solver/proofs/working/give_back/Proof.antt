@@ -1,5 +1,5 @@
 -- `working::give_back` meets its contract. Assumes nothing.
-use Rattle.solver.proofs.Back.{item-given}
+use Rattle.solver.proofs.Back.{item_given}
 use borrow.Author.Rules.{rules}
 use Rattle.solver.proofs.working.give_back.Statement.{statement}
 use Rattle.solver.proofs.working.give_back.Tie as tie
@@ -65,10 +65,10 @@ same-length-4 : tie.Need-same-length-4
 same-length-4 c = search rules
 
 returns : tie.Need-returns
-returns c = search (item-given, c.before.before.before.before.before.before.before.before.before.before.before.before.slice-known.given, rules)
+returns c = search (item_given, c.before.before.before.before.before.before.before.before.before.before.before.before.slice-known.given, rules)
 
-pub give-back-spec : {M : Type 1} → statement M
-give-back-spec =
+pub give_back_spec : {M : Type 1} → statement M
+give_back_spec =
     tie.close
     (tie.spec
     mul-new

@@ -21,8 +21,8 @@ new-requires c κs = search rules
 returns : tie.Need-returns
 returns c = cc
 
-pub working-at-spec : {M : Type 1} → statement M
-working-at-spec =
+pub working_at_spec : {M : Type 1} → statement M
+working_at_spec =
     tie.close
     (tie.spec
     shared-slice-read-wide

@@ -1,93 +1,93 @@
 -- `strip_export` meets its contract. Assumes nothing.
 use Rattle.std.proofs.Common.{◌≡◌, length, rules}
 use Rattle.strip.specs.InnerHeld.{Holds}
-use Rattle.strip.proofs.Inside.{long-prefix, kept-inside, kept-long, header-room}
+use Rattle.strip.proofs.Inside.{long_prefix, kept_inside, kept_long, header_room}
 use Rattle.strip.proofs.export.strip_export.Statement.{statement}
 use Rattle.strip.proofs.export.strip_export.Tie as tie
 
-abbrev invariant-loop : tie.invariant-loop
-invariant-loop items head levels marks reader buf₀ kept₀ input₀ turns₀ buf kept input turns = Holds input.have buf × (32768 ≡ length buf) × (256 ≡ length kept)
+abbrev invariant_loop : tie.invariant_loop
+invariant_loop items head levels marks reader buf₀ kept₀ input₀ turns₀ buf kept input turns = Holds input.have buf × (32768 ≡ length buf) × (256 ≡ length kept)
 
-abbrev decreases-loop : tie.decreases-loop
-decreases-loop items head levels marks reader buf₀ kept₀ input₀ turns₀ buf kept input turns = turns
+abbrev decreases_loop : tie.decreases_loop
+decreases_loop items head levels marks reader buf₀ kept₀ input₀ turns₀ buf kept input turns = turns
 
-nothing-requires : tie.Need-nothing-requires invariant-loop decreases-loop
+nothing-requires : tie.Need-nothing-requires invariant_loop decreases_loop
 nothing-requires c κs = search rules
 
-loop-holds : tie.Need-loop-init invariant-loop decreases-loop
+loop-holds : tie.Need-loop-init invariant_loop decreases_loop
 loop-holds c = search rules
 
-array-share-prefix-buf : tie.Need-array-share-prefix-buf invariant-loop decreases-loop
+array-share-prefix-buf : tie.Need-array-share-prefix-buf invariant_loop decreases_loop
 array-share-prefix-buf c = search rules
 
-slice-aggregate-kept-columns : tie.Need-slice-aggregate-kept-columns invariant-loop decreases-loop
-slice-aggregate-kept-columns c = long-prefix _ _ c.before.before.loop.invariant.0.within
+slice-aggregate-kept-columns : tie.Need-slice-aggregate-kept-columns invariant_loop decreases_loop
+slice-aggregate-kept-columns c = long_prefix _ _ c.before.before.loop.invariant.0.within
 
-slice-aggregate-kept-columns-2 : tie.Need-slice-aggregate-kept-columns-2 invariant-loop decreases-loop
+slice-aggregate-kept-columns-2 : tie.Need-slice-aggregate-kept-columns-2 invariant_loop decreases_loop
 slice-aggregate-kept-columns-2 c = search rules
 
-kept-columns-requires : tie.Need-kept-columns-requires invariant-loop decreases-loop
+kept-columns-requires : tie.Need-kept-columns-requires invariant_loop decreases_loop
 kept-columns-requires c κs = search rules
 
-enum-known-n : tie.Need-enum-known-n invariant-loop decreases-loop
+enum-known-n : tie.Need-enum-known-n invariant_loop decreases_loop
 enum-known-n c = search rules
 
-array-share-prefix-kept : tie.Need-array-share-prefix-kept invariant-loop decreases-loop
-array-share-prefix-kept c = search (kept-inside, rules)
+array-share-prefix-kept : tie.Need-array-share-prefix-kept invariant_loop decreases_loop
+array-share-prefix-kept c = search (kept_inside, rules)
 
-slice-aggregate-strip-records : tie.Need-slice-aggregate-strip-records invariant-loop decreases-loop
-slice-aggregate-strip-records c = search (kept-long, rules)
+slice-aggregate-strip-records : tie.Need-slice-aggregate-strip-records invariant_loop decreases_loop
+slice-aggregate-strip-records c = search (kept_long, rules)
 
-slice-aggregate-strip-records-2 : tie.Need-slice-aggregate-strip-records-2 invariant-loop decreases-loop
+slice-aggregate-strip-records-2 : tie.Need-slice-aggregate-strip-records-2 invariant_loop decreases_loop
 slice-aggregate-strip-records-2 c = search rules
 
-strip-records-requires : tie.Need-strip-records-requires invariant-loop decreases-loop
+strip-records-requires : tie.Need-strip-records-requires invariant_loop decreases_loop
 strip-records-requires c κs = search rules
 
-returns : tie.Need-returns invariant-loop decreases-loop
+returns : tie.Need-returns invariant_loop decreases_loop
 returns c = search rules
 
-enum-known-refusal : tie.Need-enum-known-refusal invariant-loop decreases-loop
+enum-known-refusal : tie.Need-enum-known-refusal invariant_loop decreases_loop
 enum-known-refusal c = search rules
 
-refuse-requires : tie.Need-refuse-requires invariant-loop decreases-loop
+refuse-requires : tie.Need-refuse-requires invariant_loop decreases_loop
 refuse-requires c κs = search rules
 
-returns-2 : tie.Need-returns-2 invariant-loop decreases-loop
+returns-2 : tie.Need-returns-2 invariant_loop decreases_loop
 returns-2 c = search rules
 
-enum_told : tie.Need-enum-told invariant-loop decreases-loop
+enum_told : tie.Need-enum-told invariant_loop decreases_loop
 enum_told c = search rules
 
-slice-aggregate-read-on : tie.Need-slice-aggregate-read-on invariant-loop decreases-loop
+slice-aggregate-read-on : tie.Need-slice-aggregate-read-on invariant_loop decreases_loop
 slice-aggregate-read-on c = search rules
 
-read-on-requires : tie.Need-read-on-requires invariant-loop decreases-loop
+read-on-requires : tie.Need-read-on-requires invariant_loop decreases_loop
 read-on-requires c κs =
-    header-room _ _ c.before.before.before.before.kept-columns.ensures c.before.enum_told.given.1
+    header_room _ _ c.before.before.before.before.kept-columns.ensures c.before.enum_told.given.1
     c.before.before.before.before.before.before.before.before.loop.invariant.0
 
-returns-3 : tie.Need-returns-3 invariant-loop decreases-loop
+returns-3 : tie.Need-returns-3 invariant_loop decreases_loop
 returns-3 c = search rules
 
-sub-turns : tie.Need-overflow-sub-turns invariant-loop decreases-loop
+sub-turns : tie.Need-overflow-sub-turns invariant_loop decreases_loop
 sub-turns c = search rules
 
-loop-less : tie.Need-loop-smaller invariant-loop decreases-loop
+loop-less : tie.Need-loop-smaller invariant_loop decreases_loop
 loop-less c = search rules
 
-loop-again : tie.Need-loop-preserved invariant-loop decreases-loop
+loop-again : tie.Need-loop-preserved invariant_loop decreases_loop
 loop-again c = search rules
 
-returns-4 : tie.Need-returns-4 invariant-loop decreases-loop
+returns-4 : tie.Need-returns-4 invariant_loop decreases_loop
 returns-4 c = search rules
 
-pub strip-export-spec : {M : Type 1} → statement M
-strip-export-spec =
+pub strip_export_spec : {M : Type 1} → statement M
+strip_export_spec =
     tie.close
     (tie.spec
-    invariant-loop
-    decreases-loop
+    invariant_loop
+    decreases_loop
     nothing-requires
     loop-holds
     array-share-prefix-buf

@@ -1,6 +1,6 @@
 -- `strip_held` meets its contract. Assumes nothing.
 use Rattle.std.proofs.Common.{rules}
-use Rattle.strip.proofs.Inside.{long-prefix, written-within, written-long, taken-held, none-room}
+use Rattle.strip.proofs.Inside.{long_prefix, written_within, written_long, taken_held, none_room}
 use Rattle.strip.proofs.export.strip_held.Statement.{statement}
 use Rattle.strip.proofs.export.strip_held.Tie as tie
 
@@ -8,7 +8,7 @@ slice-reshare-prefix-strip : tie.Need-slice-reshare-prefix-strip
 slice-reshare-prefix-strip c = search rules
 
 slice-aggregate-strip : tie.Need-slice-aggregate-strip
-slice-aggregate-strip c = long-prefix _ _ c.before.before.before.before.requires.within
+slice-aggregate-strip c = long_prefix _ _ c.before.before.before.before.requires.within
 
 strip-requires : tie.Need-strip-requires
 strip-requires c κs = search rules
@@ -17,13 +17,13 @@ enum-known-cut : tie.Need-enum-known-cut
 enum-known-cut c = search rules
 
 slice-reshare-prefix-write-records : tie.Need-slice-reshare-prefix-write-records
-slice-reshare-prefix-write-records c = search (written-within, rules)
+slice-reshare-prefix-write-records c = search (written_within, rules)
 
 slice-aggregate-write-records : tie.Need-slice-aggregate-write-records
-slice-aggregate-write-records c = search (written-long, rules)
+slice-aggregate-write-records c = search (written_long, rules)
 
 write-records-requires : tie.Need-write-records-requires
-write-records-requires c κs = search (taken-held, rules)
+write-records-requires c κs = search (taken_held, rules)
 
 same_length : tie.Need-same-length
 same_length c = search rules
@@ -48,7 +48,7 @@ returns-2 c = search rules
 
 read-on-requires : tie.Need-read-on-requires
 read-on-requires c κs =
-    none-room _ _ c.before.before.before.before.before.before.before.before.before.strip.ensures
+    none_room _ _ c.before.before.before.before.before.before.before.before.before.strip.ensures
     c.before.before.before.before.before.cut.given.1
     c.before.before.before.before.before.before.before.before.before.before.before.before.before.before.before.requires (search rules) (search rules)
 
@@ -82,8 +82,8 @@ same-length-8 c = search rules
 returns-4 : tie.Need-returns-4
 returns-4 c = search rules
 
-pub strip-held-spec : {M : Type 1} → statement M
-strip-held-spec =
+pub strip_held_spec : {M : Type 1} → statement M
+strip_held_spec =
     tie.close
     (tie.spec
     slice-reshare-prefix-strip

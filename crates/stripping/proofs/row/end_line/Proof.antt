@@ -1,6 +1,6 @@
 -- `end_line` meets its contract. Assumes nothing.
 use borrow.Author.Rules.{rules}
-use Rattle.stripping.proofs.Making.{ends-over, ends-here}
+use Rattle.stripping.proofs.Making.{ends_over, ends_here}
 use Rattle.stripping.proofs.row.end_line.Statement.{statement}
 use Rattle.stripping.proofs.row.end_line.Tie as tie
 
@@ -23,16 +23,16 @@ same_length : tie.Need-same-length
 same_length c = search rules
 
 returns : tie.Need-returns
-returns c = search (ends-over, rules)
+returns c = search (ends_over, rules)
 
 same-length-2 : tie.Need-same-length-2
 same-length-2 c = search rules
 
 returns-2 : tie.Need-returns-2
-returns-2 c = search (ends-here, rules)
+returns-2 c = search (ends_here, rules)
 
-pub end-line-spec : {M : Type 1} → statement M
-end-line-spec =
+pub end_line_spec : {M : Type 1} → statement M
+end_line_spec =
     tie.close
     (tie.spec
     slice-aggregate-put

@@ -6,48 +6,48 @@ use borrow.Author.Rules.{rules}
 use Rattle.wire.proofs.input.bytes_in.Statement.{statement}
 use Rattle.wire.proofs.input.bytes_in.Tie as tie
 
-abbrev invariant-loop : tie.invariant-loop
-invariant-loop buf₀ sizes good₀ i₀ buf good i = length buf ≡ length buf₀
+abbrev invariant_loop : tie.invariant_loop
+invariant_loop buf₀ sizes good₀ i₀ buf good i = length buf ≡ length buf₀
 
-abbrev decreases-loop : tie.decreases-loop
-decreases-loop buf₀ sizes good₀ i₀ buf good i = sizes.count - i
+abbrev decreases_loop : tie.decreases_loop
+decreases_loop buf₀ sizes good₀ i₀ buf good i = sizes.count - i
 
-sizes-in-requires : tie.Need-sizes-in-requires invariant-loop decreases-loop
+sizes-in-requires : tie.Need-sizes-in-requires invariant_loop decreases_loop
 sizes-in-requires c κs = search rules
 
-loop-holds : tie.Need-loop-init invariant-loop decreases-loop
+loop-holds : tie.Need-loop-init invariant_loop decreases_loop
 loop-holds c = search rules
 
-word-in-requires : tie.Need-word-in-requires invariant-loop decreases-loop
+word-in-requires : tie.Need-word-in-requires invariant_loop decreases_loop
 word-in-requires c κs = search rules
 
-cast-buf : tie.Need-overflow-cast-buf invariant-loop decreases-loop
+cast-buf : tie.Need-overflow-cast-buf invariant_loop decreases_loop
 cast-buf c = search rules
 
-slice-write-buf : tie.Need-slice-write-buf invariant-loop decreases-loop
+slice-write-buf : tie.Need-slice-write-buf invariant_loop decreases_loop
 slice-write-buf c = search rules
 
-add-i : tie.Need-overflow-add-i invariant-loop decreases-loop
+add-i : tie.Need-overflow-add-i invariant_loop decreases_loop
 add-i c = search rules
 
-loop-less : tie.Need-loop-smaller invariant-loop decreases-loop
+loop-less : tie.Need-loop-smaller invariant_loop decreases_loop
 loop-less c = search rules
 
-loop-again : tie.Need-loop-preserved invariant-loop decreases-loop
+loop-again : tie.Need-loop-preserved invariant_loop decreases_loop
 loop-again c = search rules
 
-same_length : tie.Need-same-length invariant-loop decreases-loop
+same_length : tie.Need-same-length invariant_loop decreases_loop
 same_length c = search rules
 
-returns : tie.Need-returns invariant-loop decreases-loop
+returns : tie.Need-returns invariant_loop decreases_loop
 returns c = search rules
 
-pub bytes-in-spec : {M : Type 1} → statement M
-bytes-in-spec =
+pub bytes_in_spec : {M : Type 1} → statement M
+bytes_in_spec =
     tie.close
     (tie.spec
-    invariant-loop
-    decreases-loop
+    invariant_loop
+    decreases_loop
     sizes-in-requires
     loop-holds
     word-in-requires

@@ -1,6 +1,6 @@
 -- `book` meets its contract. Assumes nothing.
 use borrow.Author.Rules.{rules}
-use Rattle.writer.proofs.Lines.{book-grown}
+use Rattle.writer.proofs.Lines.{book_grown}
 use Rattle.writer.proofs.book.book.Statement.{statement}
 use Rattle.writer.proofs.book.book.Tie as tie
 
@@ -20,10 +20,10 @@ same_length : tie.Need-same-length
 same_length c = search rules
 
 returns : tie.Need-returns
-returns c = search (book-grown, rules)
+returns c = search (book_grown, rules)
 
-pub book-spec : {M : Type 1} → statement M
-book-spec =
+pub book_spec : {M : Type 1} → statement M
+book_spec =
     tie.close
     (tie.spec
     rule-lines-requires

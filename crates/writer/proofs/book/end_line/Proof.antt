@@ -1,6 +1,6 @@
 -- `end_line` meets its contract, piece by piece. Assumes nothing.
 use borrow.Author.Rules.{rules}
-use Rattle.writer.proofs.Lines.{end-put}
+use Rattle.writer.proofs.Lines.{end_put}
 use Rattle.writer.proofs.book.end_line.Statement.{statement}
 use Rattle.writer.proofs.book.end_line.Tie as tie
 
@@ -20,10 +20,10 @@ same_length : tie.Need-same-length
 same_length c = search rules
 
 returns : tie.Need-returns
-returns c = search (end-put, rules)
+returns c = search (end_put, rules)
 
-pub end-line-spec : {M : Type 1} → statement M
-end-line-spec =
+pub end_line_spec : {M : Type 1} → statement M
+end_line_spec =
     tie.close
     (tie.spec
     put-key-requires

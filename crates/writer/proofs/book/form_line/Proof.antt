@@ -1,6 +1,6 @@
 -- `form_line` meets its contract, piece by piece. Assumes nothing.
 use borrow.Author.Rules.{rules}
-use Rattle.writer.proofs.Lines.{form-put}
+use Rattle.writer.proofs.Lines.{form_put}
 use Rattle.writer.proofs.book.form_line.Statement.{statement}
 use Rattle.writer.proofs.book.form_line.Tie as tie
 
@@ -17,8 +17,8 @@ same_length : tie.Need-same-length
 same_length c = search rules
 
 returns : tie.Need-returns
-returns c = search (form-put, rules)
+returns c = search (form_put, rules)
 
-pub form-line-spec : {M : Type 1} → statement M
-form-line-spec =
+pub form_line_spec : {M : Type 1} → statement M
+form_line_spec =
     tie.close (tie.spec put-key-requires slice-aggregate-put put-requires same_length returns)

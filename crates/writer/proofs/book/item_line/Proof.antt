@@ -1,6 +1,6 @@
 -- `item_line` meets its contract, piece by piece. Assumes nothing.
 use borrow.Author.Rules.{rules}
-use Rattle.writer.proofs.Lines.{item-put}
+use Rattle.writer.proofs.Lines.{item_put}
 use Rattle.writer.proofs.book.item_line.Statement.{statement}
 use Rattle.writer.proofs.book.item_line.Tie as tie
 
@@ -20,10 +20,10 @@ same_length : tie.Need-same-length
 same_length c = search rules
 
 returns : tie.Need-returns
-returns c = search (item-put, rules)
+returns c = search (item_put, rules)
 
-pub item-line-spec : {M : Type 1} → statement M
-item-line-spec =
+pub item_line_spec : {M : Type 1} → statement M
+item_line_spec =
     tie.close
     (tie.spec
     put-key-requires

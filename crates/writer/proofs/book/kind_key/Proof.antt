@@ -1,6 +1,6 @@
 -- `kind_key` meets its contract. Assumes nothing.
 use borrow.Author.Rules.{rules}
-use Rattle.writer.proofs.Lines.{key-other}
+use Rattle.writer.proofs.Lines.{key_other}
 use Rattle.writer.proofs.book.kind_key.Statement.{statement}
 use Rattle.writer.proofs.book.kind_key.Tie as tie
 
@@ -11,7 +11,7 @@ returns-2 : tie.Need-returns-2
 returns-2 c = search rules
 
 returns-3 : tie.Need-returns-3
-returns-3 c = search (key-other, rules)
+returns-3 c = search (key_other, rules)
 
-pub kind-key-spec : {M : Type 1} → statement M
-kind-key-spec = tie.close (tie.spec returns returns-2 returns-3)
+pub kind_key_spec : {M : Type 1} → statement M
+kind_key_spec = tie.close (tie.spec returns returns-2 returns-3)

@@ -1,18 +1,18 @@
 -- `left_piece` meets its contract: a plus sign stands behind every left name but the last. Assumes nothing.
 use native.Mathlib.Omega.{arith}
 use borrow.Author.Rules.{rules}
-use Rattle.writer.proofs.Lines.{left-place, left-named, left-plus, left-colon}
+use Rattle.writer.proofs.Lines.{left_place, left_named, left_plus, left_colon}
 use Rattle.writer.proofs.book.left_piece.Statement.{statement}
 use Rattle.writer.proofs.book.left_piece.Tie as tie
 
 mul-put-name : tie.Need-overflow-mul-put-name
-mul-put-name c = omega (arith, left-place c.before.before.requires)
+mul-put-name c = omega (arith, left_place c.before.before.requires)
 
 element-copy-out-put-name : tie.Need-element-copy-out-put-name
-element-copy-out-put-name c = search (left-place, rules)
+element-copy-out-put-name c = search (left_place, rules)
 
 put-name-requires : tie.Need-put-name-requires
-put-name-requires c κs = search (left-named, rules)
+put-name-requires c κs = search (left_named, rules)
 
 add-next : tie.Need-overflow-add-next
 add-next c = search rules
@@ -27,7 +27,7 @@ same_length : tie.Need-same-length
 same_length c = search rules
 
 returns : tie.Need-returns
-returns c = search (left-plus, rules)
+returns c = search (left_plus, rules)
 
 slice-aggregate-put-2 : tie.Need-slice-aggregate-put-2
 slice-aggregate-put-2 c = search rules
@@ -39,10 +39,10 @@ same-length-2 : tie.Need-same-length-2
 same-length-2 c = search rules
 
 returns-2 : tie.Need-returns-2
-returns-2 c = search (left-colon, rules)
+returns-2 c = search (left_colon, rules)
 
-pub left-piece-spec : {M : Type 1} → statement M
-left-piece-spec =
+pub left_piece_spec : {M : Type 1} → statement M
+left_piece_spec =
     tie.close
     (tie.spec
     mul-put-name

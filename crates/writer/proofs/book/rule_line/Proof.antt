@@ -1,6 +1,6 @@
 -- `rule_line` meets its contract, piece by piece. Assumes nothing.
 use borrow.Author.Rules.{rules}
-use Rattle.writer.proofs.Lines.{rule-put}
+use Rattle.writer.proofs.Lines.{rule_put}
 use Rattle.writer.proofs.book.rule_line.Statement.{statement}
 use Rattle.writer.proofs.book.rule_line.Tie as tie
 
@@ -20,10 +20,10 @@ same_length : tie.Need-same-length
 same_length c = search rules
 
 returns : tie.Need-returns
-returns c = search (rule-put, rules)
+returns c = search (rule_put, rules)
 
-pub rule-line-spec : {M : Type 1} → statement M
-rule-line-spec =
+pub rule_line_spec : {M : Type 1} → statement M
+rule_line_spec =
     tie.close
     (tie.spec
     left-names-requires

@@ -1,6 +1,6 @@
 -- `label_line` meets its contract, piece by piece. Assumes nothing.
 use borrow.Author.Rules.{rules}
-use Rattle.writer.proofs.Lines.{label-put}
+use Rattle.writer.proofs.Lines.{label_put}
 use Rattle.writer.proofs.labelled.label_line.Statement.{statement}
 use Rattle.writer.proofs.labelled.label_line.Tie as tie
 
@@ -23,10 +23,10 @@ same_length : tie.Need-same-length
 same_length c = search rules
 
 returns : tie.Need-returns
-returns c = search (label-put, rules)
+returns c = search (label_put, rules)
 
-pub label-line-spec : {M : Type 1} → statement M
-label-line-spec =
+pub label_line_spec : {M : Type 1} → statement M
+label_line_spec =
     tie.close
     (tie.spec
     label-name-requires

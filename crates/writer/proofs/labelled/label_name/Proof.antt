@@ -1,6 +1,6 @@
 -- `label_name` meets its contract, piece by piece. Assumes nothing.
 use borrow.Author.Rules.{rules}
-use Rattle.writer.proofs.Lines.{label-name}
+use Rattle.writer.proofs.Lines.{label_name_lem}
 use Rattle.writer.proofs.labelled.label_name.Statement.{statement}
 use Rattle.writer.proofs.labelled.label_name.Tie as tie
 
@@ -23,10 +23,10 @@ same_length : tie.Need-same-length
 same_length c = search rules
 
 returns : tie.Need-returns
-returns c = search (label-name, rules)
+returns c = search (label_name_lem, rules)
 
-pub label-name-spec : {M : Type 1} → statement M
-label-name-spec =
+pub label_name_spec : {M : Type 1} → statement M
+label_name_spec =
     tie.close
     (tie.spec
     slice-aggregate-put

@@ -1,6 +1,6 @@
 -- `labels_text` meets its contract. Assumes nothing.
 use borrow.Author.Rules.{rules}
-use Rattle.writer.proofs.Lines.{labels-made}
+use Rattle.writer.proofs.Lines.{labels_made}
 use Rattle.writer.proofs.labelled.labels_text.Statement.{statement}
 use Rattle.writer.proofs.labelled.labels_text.Tie as tie
 
@@ -17,8 +17,8 @@ same_length : tie.Need-same-length
 same_length c = search rules
 
 returns : tie.Need-returns
-returns c = search (labels-made, rules)
+returns c = search (labels_made, rules)
 
-pub labels-text-spec : {M : Type 1} → statement M
-labels-text-spec =
+pub labels_text_spec : {M : Type 1} → statement M
+labels_text_spec =
     tie.close (tie.spec label-lines-requires add-end-line end-line-requires same_length returns)
