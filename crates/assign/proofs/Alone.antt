@@ -14,7 +14,7 @@ use Rattle.reader.specs.Agreeing.{TextsAgree}
 use Rattle.reader.proofs.Agreeing.{texts_agree}
 use Rattle.solver.specs.declared.Solved.{Solved}
 use Rattle.solver.specs.Solving.{said_solved, labels_of, SolveSays}
-use Rattle.solver.proofs.Alone.{solve-one-part-alone}
+use Rattle.solver.proofs.Alone.{solve_one_part_alone}
 use Rattle.assign.specs.Assigning.{said_head, Lent, BookSays, short_items, unsolved, solved, AssignSays, unread, read}
 use Rattle.assign.proofs.Unique.{head_of}
 
@@ -44,4 +44,4 @@ pub assign_one_part_alone : {l m : List ℕ} {h k : Head} {before after before' 
 assign_one_part_alone is_part agree x y =
     let one = says_solves x in
     let two = says_solves y in
-    solve-one-part-alone is_part (texts_agree agree one.whole two.whole) one.labels two.labels
+    solve_one_part_alone is_part (texts_agree agree one.whole two.whole) one.labels two.labels

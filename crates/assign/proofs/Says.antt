@@ -24,7 +24,7 @@ use Rattle.reader.specs.Reading.{said_read, ReadSays}
 use Rattle.reader.proofs.Books.{answer_whole, tables_read, read_tables}
 use Rattle.solver.specs.declared.Solved.{Solved}
 use Rattle.solver.specs.Solving.{said_solved, held, SolveSays}
-use Rattle.solver.proofs.Counted.{solve-counted}
+use Rattle.solver.proofs.Counted.{solve_counted}
 use Rattle.assign.specs.declared.Assigned.{Assigned}
 use Rattle.assign.specs.Assigning.{said_head, said_assigned, Lent, lent, items_over, BookSays, short_items, unsolved, solved, AssignSays, unread, read}
 
@@ -32,10 +32,10 @@ use Rattle.assign.specs.Assigning.{said_head, said_assigned, Lent, lent, items_o
 book_moved : {h : Head} {t w t' w' : List ℕ} {before after : Lent} {s : Said} → SameTables h t w t' w' → BookSays h t' w' before s after
     → BookSays h t w before s after
 book_moved same (short_items x) = short_items x
-book_moved {h} {w = w} {w' = w'} same (unsolved room x) = unsolved room (solve-counted h w' w (sym same.rules) x)
+book_moved {h} {w = w} {w' = w'} same (unsolved room x) = unsolved room (solve_counted h w' w (sym same.rules) x)
 book_moved {h} {t} {w} {w' = w'} {before = before} same (solved {k} {labels} room x) =
     subst (λ (y : List ℕ). BookSays h t w before (said_head h) (lent (over before.items 0 y) labels)) same.items
-    (solved room (solve-counted h w' w (sym same.rules) x))
+    (solved room (solve_counted h w' w (sym same.rules) x))
 
 -- The answers to a book whose tables are right.
 module _ {h : Head} {names rules items levels marks : List ℕ} where

@@ -1,10 +1,15 @@
--- Why it is true.
+-- Why it is true: sums that fall, labels that are lowered, settling, and lowering item by item; that there is only one answer, that nothing past the count is looked at,
+-- and that one part's labels depend on that part alone.
 pub mod Common
 pub mod OneItem
-pub mod Buffers
+pub mod Push
+pub mod Sweep
+pub mod Lacking
 pub mod Copying
-pub mod Back
-pub mod Reading
-pub mod Looking
-pub mod Waking
-pub mod Visits
+pub mod Attempts
+pub mod Lowering
+pub mod Core
+pub mod Answers
+pub mod Unique
+pub mod Counted
+pub mod Alone

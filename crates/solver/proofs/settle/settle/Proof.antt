@@ -1,60 +1,43 @@
+-- `settle::settle` meets its contract. Assumes nothing.
+use Rattle.solver.specs.Solving.{held}
+use Rattle.solver.specs.InnerSteps.{sum_of}
+use Rattle.solver.proofs.Sweep.{Settling, settling_none, settling_more, settling_less, settling_end, usable_kept}
 use borrow.Author.Rules.{rules}
 use Rattle.solver.proofs.settle.settle.Statement.{statement}
 use Rattle.solver.proofs.settle.settle.Tie as tie
-use Rattle.solver.proofs.settle.settle.Reads as reads
-use Rattle.solver.proofs.settle.settle.Lts as lts
-use Rattle.solver.proofs.settle.goes_on.Reads as goes-on-reads
-use Rattle.solver.proofs.settle.turn.Reads as turn-reads
 
 abbrev invariant_loop : tie.invariant_loop
-invariant_loop rules head size users levels₀ marks₀ enough s₀ levels marks s = ?
+invariant_loop rules head levels₀ marks₀ back₀ levels marks back = Settling head rules (held levels₀ marks₀) (held levels marks)
 
 abbrev decreases_loop : tie.decreases_loop
-decreases_loop rules head size users levels₀ marks₀ enough s₀ levels marks s = ?
+decreases_loop rules head levels₀ marks₀ back₀ levels marks back = sum_of (held levels marks)
 
--- src/settle.rt:261:5
 loop-holds : tie.Need-loop-init invariant_loop decreases_loop
-loop-holds c = search rules
+loop-holds c = settling_none
 
--- src/settle.rt:261:11
-goes-on-requires : tie.Need-goes-on-requires invariant_loop decreases_loop
-goes-on-requires c κs = search rules
+sweep-requires : tie.Need-sweep-requires invariant_loop decreases_loop
+sweep-requires c κs = search (usable_kept, rules)
 
--- src/settle.rt:262:9
-turn-requires : tie.Need-turn-requires invariant_loop decreases_loop
-turn-requires c κs = search rules
-
--- src/settle.rt:261:5
 loop-less : tie.Need-loop-smaller invariant_loop decreases_loop
-loop-less c = search rules
+loop-less c = search (settling_less, rules)
 
--- src/settle.rt:261:5
 loop-again : tie.Need-loop-preserved invariant_loop decreases_loop
-loop-again c = search rules
+loop-again c = search (settling_more, rules)
 
--- src/settle.rt:247:1
+unheld-requires : tie.Need-unheld-requires invariant_loop decreases_loop
+unheld-requires c κs = search rules
+
 same_length : tie.Need-same-length invariant_loop decreases_loop
 same_length c = search rules
 
--- src/settle.rt:247:1
 same-length-2 : tie.Need-same-length-2 invariant_loop decreases_loop
 same-length-2 c = search rules
 
--- src/settle.rt:247:1
 returns : tie.Need-returns invariant_loop decreases_loop
-returns c = search rules
+returns c = search (settling_end, rules)
 
 pub settle_spec : {M : Type 1} → statement M
 settle_spec =
     tie.close
-    (tie.spec
-    invariant_loop
-    decreases_loop
-    loop-holds
-    goes-on-requires
-    turn-requires
-    loop-less
-    loop-again
-    same_length
-    same-length-2
+    (tie.spec invariant_loop decreases_loop loop-holds sweep-requires loop-less loop-again unheld-requires same_length same-length-2
     returns)
