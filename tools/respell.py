@@ -152,10 +152,9 @@ def main():
                 LAWS.add(it)
     for path, text in texts.items():
         keep = set(OF_A_GOAL.findall(no_comments(text))) | of_libraries(text, crates)
-        new = renamed(text, own, keep)
         for law in snake_laws[path]:
-            new = re.sub(r"(?<![\w.\-'])" + law + r"(?![\w.\-'])", law + "_lem", new)
-        write(path, new)
+            text = re.sub(r"(?<![\w.\-'])" + law + r"(?![\w.\-'])", law + "_lem", text)
+        write(path, renamed(text, own, keep))
     for ending in (".rt", ".edit"):
         for path in files(top, ending):
             write(path, in_source(read(path), own))

@@ -1,6 +1,8 @@
 // Which rules, and which tables of rules, are accepted: the tests of a rule by value and of a flat lent table.
 //
 // Nothing here refuses. A test answers no.
+#![tactic(auto)]
+
 ghost use Rattle.std.specs.Prelude.{◌≤◌, ◌<◌};
 ghost use Rattle.laws.specs.Tells.{Tells};
 ghost use Rattle.refusals.specs.Sizes.{most_left};

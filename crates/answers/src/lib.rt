@@ -1,4 +1,6 @@
 // The answer to a whole text: a rulebook goes in as text, and its labels or its refusal come out as text.
+#![tactic(auto)]
+
 ghost use Rattle.puts.specs.InnerGrowing.{Grown, Front};
 ghost use Rattle.writer.specs.Texts.{labels_text};
 ghost use Rattle.writer.specs.Writing.{said_written};

@@ -1,4 +1,6 @@
 // From the text of a rulebook to its items and their labels, once for everyone who needs them.
+#![tactic(auto)]
+
 ghost use Rattle.solver.specs.Solving.{held};
 ghost use Rattle.accepts.specs.Tables.{Tables};
 ghost use Rattle.assign.specs.Assigning.{lent, said_assigned, BookSays, AssignSays};

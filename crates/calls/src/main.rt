@@ -1,5 +1,7 @@
 // Makes the calls that standard input has, and prints the answer of each and what it leaves in the lent buffers. tests/calls/README.md says how a call
 // and an answer are written, and which routine has which number.
+#![tactic(auto)]
+
 use libc::STDOUT_FILENO;
 use routines::{export_calls, label_calls, record_calls, table_calls, text_calls, token_calls};
 use wire::answer::Answer;

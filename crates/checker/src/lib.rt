@@ -1,6 +1,8 @@
 // Checking: whether labels meet one rule, and the first rule of a table or of a list that they do not meet.
 //
 // Labels are lent as two slices, levels and marks. Nothing is written, and nothing is required.
+#![tactic(auto)]
+
 pub mod list;
 
 ghost use Rattle.std.specs.Prelude.{◌≡◌};

@@ -2,6 +2,8 @@
 //
 // A class is a struct by value. Marks are the bits of a word, so that all 64 are handled at once by masks. Nothing here
 // refuses: a level over 15 is taken as the number it is.
+#![tactic(auto)]
+
 ghost use Rattle.std.specs.Prelude.{◌≡◌, min, max};
 ghost use Rattle.laws.specs.Tells.{Tells};
 ghost use Rattle.classes.specs.Bits.{LowestOne};

@@ -1,4 +1,6 @@
 // The columns of an export that a reader may see: from labelled items, the reader's class and the export's header.
+#![tactic(auto)]
+
 mod header;
 
 ghost use Rattle.std.specs.Prelude.{◌≡◌};

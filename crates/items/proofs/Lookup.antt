@@ -15,7 +15,7 @@ use Rattle.laws.specs.Tells.{Tells}
 use Rattle.laws.proofs.Bools.{true_not_false, and_left, and_right}
 use Rattle.laws.proofs.Every.{every_all, every_at}
 use Rattle.laws.proofs.Tells.{tells_unique, tells_test}
-use Rattle.laws.specs.Search.{first_below_lem}
+use Rattle.laws.specs.Search.{first_below}
 use Rattle.refusals.specs.declared.Refusal.{Refusal}
 use Rattle.refusals.specs.Said.{Said, success, refused}
 use Rattle.refusals.proofs.Said.{said_injective, refusal_of, refusal_back}
@@ -96,7 +96,7 @@ unfolding find_in look_up
 find_says t n name = says (table_fits t n) refl (is_name name) refl (ltb first n) refl
   where
     first : ℕ
-    first = first_below_lem n (λ i. same_name t i name)
+    first = first_below n (λ i. same_name t i name)
 
     search_of : First n (λ i. same_name t i name) first
     search_of = first_below_lem n (λ i. same_name t i name)

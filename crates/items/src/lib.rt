@@ -1,6 +1,8 @@
 // The item table: names of 1 to 16 bytes, each in 16 bytes with zeros behind it, lent as one slice with the number of its items.
 //
 // Every function takes any input: a byte past the table's end is 0, and nothing is required.
+#![tactic(auto)]
+
 ghost use Rattle.std.specs.Prelude.{◌≡◌};
 ghost use Rattle.laws.specs.Tells.{Tells};
 ghost use Rattle.laws.specs.Search.{first_below};

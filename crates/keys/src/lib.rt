@@ -2,6 +2,8 @@
 //
 // Every function takes any place and any number. Past a text's end no key stands, and a number that is no row or no column of the table is
 // answered no.
+#![tactic(auto)]
+
 ghost use Rattle.std.specs.Prelude.{◌≡◌, drop};
 ghost use Rattle.keys.specs.Keys.{starts_with, found_or, key_at, key_number, next_allowed};
 

@@ -1,4 +1,6 @@
 // The labelling program: reads a rulebook from standard input and prints its labels, or its refusal, on standard output.
+#![tactic(auto)]
+
 use answers::answer;
 use libc::{STDIN_FILENO, STDOUT_FILENO};
 use refusals::MOST_TEXT;

@@ -1,6 +1,8 @@
 // Labels, lent as two slices, levels and marks: the label of an item, whether there are enough of them, and the first one whose level is out of range.
 //
 // Nothing is required. Past the end of the levels and of the marks there is zero.
+#![tactic(auto)]
+
 ghost use Rattle.std.specs.Prelude.{◌≡◌, get_or};
 ghost use Rattle.laws.specs.Tells.{Tells};
 ghost use Rattle.laws.specs.First.{Sought};

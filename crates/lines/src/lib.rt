@@ -1,6 +1,8 @@
 // One line of a rulebook: its key, and its value taken apart.
 //
 // Every function takes any place. A line that has not one of the six forms, its LF included, is answered so.
+#![tactic(auto)]
+
 pub mod left;
 pub mod value;
 

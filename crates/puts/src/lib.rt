@@ -1,6 +1,8 @@
 // Tokens put at a place of a lent buffer. Where the buffer has no room for the whole of it, each function writes nothing and answers a place past
 // the buffer's end, its length plus one, at which nothing has room; else it answers the place after what it put. So where several are put one
 // behind the other, the last answer tells whether there was room for all of them.
+#![tactic(auto)]
+
 ghost use Rattle.std.specs.Prelude.{◌≡◌, ◌+◌, ◌<◌, leb};
 ghost use Rattle.keys.specs.Keys.{key_text};
 ghost use Rattle.tokens.specs.Numbers.{digit, decimal_len};

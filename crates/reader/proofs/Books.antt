@@ -22,7 +22,7 @@ use Rattle.accepts.specs.Tables.{Tables, SameTables}
 use Rattle.accepts.proofs.Counted.{tables_counted}
 use Rattle.reader.specs.declared.ReadBook.{ReadBook}
 use Rattle.reader.specs.Lines.{refused_at}
-use Rattle.reader.specs.Reading.{said_read, read_text, fitted, read_answer, read_whole_lem, ReadSays}
+use Rattle.reader.specs.Reading.{said_read, read_text, fitted, read_answer, read_whole, ReadSays}
 use Rattle.reader.proofs.ReadRight.{read_right}
 use Rattle.reader.proofs.Unique.{read_told}
 
@@ -96,7 +96,7 @@ pub read_passes : {l items rules : List ℕ} {h : Head} {items' rules' : List �
 read_passes read = passes read refl
 
 -- Tables that have room for every book never lack it.
-pub read_whole_lem : (l : List ℕ) → read_answer l (most_items * name_room) (most_rules * rule_words) ≡ read_whole_lem l
+pub read_whole_lem : (l : List ℕ) → read_answer l (most_items * name_room) (most_rules * rule_words) ≡ read_whole l
 unfolding read_answer
 read_whole_lem l = ap (cond (ltb most_text (length l)) (refused_at Fault.TooLong 0)) (fits (read_text l).answer refl)
   where
@@ -110,16 +110,16 @@ read_whole_lem l = ap (cond (ltb most_text (length l)) (refused_at Fault.TooLong
     fits (ReadBook.Refused r) e = refl
 
 pub answer_whole : {l items rules : List ℕ} {r : ReadBook} {items' rules' : List ℕ} → ReadSays l items rules (said_read r) items' rules'
-    → length items ≡ most_items * name_room → length rules ≡ most_rules * rule_words → {a : ReadBook} → r ≡ a → read_whole_lem l ≡ a
+    → length items ≡ most_items * name_room → length rules ≡ most_rules * rule_words → {a : ReadBook} → r ≡ a → read_whole l ≡ a
 answer_whole {l} read bytes words e = sym (read_whole_lem l) ∙ sym (read_told read ∙ rw (bytes, words)) ∙ e
 
 -- A book that is read is the book of the lines, and its tables are right.
-pub book_of_lines : (l : List ℕ) {h : Head} → read_whole_lem l ≡ ReadBook.Book h → (read_text l).answer ≡ ReadBook.Book h
+pub book_of_lines : (l : List ℕ) {h : Head} → read_whole l ≡ ReadBook.Book h → (read_text l).answer ≡ ReadBook.Book h
 book_of_lines l {h} = go (ltb most_text (length l))
   where
     go : (b : Bool) → cond b (refused_at Fault.TooLong 0) (read_text l).answer ≡ ReadBook.Book h → (read_text l).answer ≡ ReadBook.Book h
     go true e = let never : ◌≡◌ {A = ℕ} 1 0 = cc in absurd (omega arith)
     go false e = e
 
-pub read_tables : (l : List ℕ) {h : Head} → read_whole_lem l ≡ ReadBook.Book h → Tables h (read_text l).names (read_text l).words
+pub read_tables : (l : List ℕ) {h : Head} → read_whole l ≡ ReadBook.Book h → Tables h (read_text l).names (read_text l).words
 read_tables l e = read_right l (book_of_lines l e)

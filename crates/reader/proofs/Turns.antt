@@ -31,7 +31,7 @@ use Rattle.reader.specs.declared.line.Added.{Added}
 use Rattle.reader.specs.declared.line.Counts.{Counts}
 use Rattle.reader.specs.declared.line.Stepped.{Stepped}
 use Rattle.reader.specs.Names.{rising}
-use Rattle.reader.specs.Lines.{State, Turn, on, refused_at, refuse, head_of, counted, item_name, is_absent, with_item, item_step, rule_kind, left_places, left_numbers, with_rule, all_found, rule_step, end_step, key_step, line_step_lem, step}
+use Rattle.reader.specs.Lines.{State, Turn, on, refused_at, refuse, head_of, counted, item_name, is_absent, with_item, item_step, rule_kind, left_places, left_numbers, with_rule, all_found, rule_step, end_step, key_step, line_step, step}
 use Rattle.reader.specs.InnerAdding.{NameReady, item_added, ItemAdded, NamesReady, RuleAdded}
 use Rattle.reader.specs.InnerLines.{state_of, turn_of, Ready, LineReady, Counting, ItemReady, RuleReady, stops_at, went_on, ItemStepped, RuleStepped, EndStepped}
 
@@ -256,18 +256,18 @@ pub step_none : (text : List ℕ) (at : ℕ) (c : Counts) (names words : List �
 unfolding step
 step_none text at c names words h e = rw (e, drop_of_length-le text {i = at} h)
 
-line_step_lem : (st : State) (l : List ℕ) → 0 < length l → step st l ≡ line_step_lem st l (line_at l)
+line_step_lem : (st : State) (l : List ℕ) → 0 < length l → step st l ≡ line_step st l (line_at l)
 unfolding step
 line_step_lem st [] h = absurd (omega arith)
 line_step_lem st (b ∷ l) h = refl
 
 module _ (text : List ℕ) (at : ℕ) (c : Counts) (names words : List ℕ) (h : at < length text) {y : ReadLine} (e : y ≡ line_at (drop at text)) where
-  first : step (state_of c names words) (drop at text) ≡ line_step_lem (state_of c names words) (drop at text) y
+  first : step (state_of c names words) (drop at text) ≡ line_step (state_of c names words) (drop at text) y
   first = line_step_lem (state_of c names words) (drop at text) (omega (arith, length-drop at text)) ∙ rw (← e)
 
   pub step_syntax : {r : Stepped} → y ≡ ReadLine.Bad → r ≡ stops_at Fault.Syntax (c.lines + 1)
       → turn_of r names words ≡ step (state_of c names words) (drop at text)
-  unfolding line_step_lem
+  unfolding line_step
   step_syntax f g = rw g (sym (first ∙ rw f))
 
   module _ {x : Line} (f : y ≡ ReadLine.Found x) {q : ℕ} (g : q ≡ key_number x.key) {b : Bool} (i : b ≡ next_allowed c.after q) where
@@ -276,12 +276,12 @@ module _ (text : List ℕ) (at : ℕ) (c : Counts) (names words : List ℕ) (h :
 
     pub step_order : {r : Stepped} → not b ≡ true → r ≡ stops_at Fault.Order (c.lines + 1)
         → turn_of r names words ≡ step (state_of c names words) (drop at text)
-    unfolding line_step_lem
+    unfolding line_step
     step_order j k = rw k (sym (first ∙ rw (f, table, not-true b j)))
 
     module _ (j : not b ≡ false) where
       by_key : step (state_of c names words) (drop at text) ≡ key_step x.key (state_of c names words) (drop at text) x
-      unfolding line_step_lem
+      unfolding line_step
       by_key = first ∙ rw (f, table, not-false b j)
 
       pub step_form : x.key ≡ Key.Form → {r : Stepped} → r ≡ went_on c x c.items c.rules

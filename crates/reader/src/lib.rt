@@ -1,4 +1,6 @@
 // Reading a rulebook: from text to the item table and the rule table.
+#![tactic(auto)]
+
 mod line;
 mod names;
 

@@ -1,6 +1,8 @@
 // The records of an RFC 4180 text: one field at a place, the record at a place with where its fields end, and each of its fields as a part of the text.
 //
 // Every function takes any place and any bytes. Past a text's end there is nothing.
+#![tactic(auto)]
+
 ghost use Rattle.std.specs.Prelude.{◌≡◌, ◌+◌, ◌-◌, ◌≤◌, min, length, drop, get_or};
 ghost use Rattle.records.specs.Fields.{plain_byte, behind, longer_by, field_at, field_len};
 ghost use Rattle.records.specs.Rows.{line_end, RowSays, start_at, nth_field};

@@ -1,4 +1,6 @@
 // The refusals that documents 01 and 02 number, each with its place, and the sizes past which a text or a book is refused.
+#![tactic(auto)]
+
 ghost use Rattle.std.specs.Prelude.{◌≡◌};
 ghost use Rattle.refusals.specs.Numbers.{fault_number};
 

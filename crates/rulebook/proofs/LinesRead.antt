@@ -31,7 +31,7 @@ use Rattle.lines.specs.declared.value.Value.{Value}
 use Rattle.lines.specs.declared.value.ReadValue.{ReadValue}
 use Rattle.lines.specs.declared.Line.{Line}
 use Rattle.lines.proofs.Sides.{left_last, left_more}
-use Rattle.writer.specs.Texts.{pieces, form_line, end_line_lem}
+use Rattle.writer.specs.Texts.{pieces, form_line, end_line}
 use Rattle.rulebook.proofs.LineByLine.{LineRead}
 
 -- The bytes that follow a token, LF, the plus sign and the colon, are no bytes of one.
@@ -99,7 +99,7 @@ pub item_line_lem : (x : List ℕ) → is_name x ≡ true
 item_line_lem x e =
     line_reads Key.Item x (named_value 1 (length x) 0 lowest (length x)) (λ rest. rw (name_before x lf rest e feed_no_name)) refl
 
-pub end_line_lem : (c : ℕ) → c < 10 ^ count_digits → LineRead (end_line_lem c) (line_with Key.End (unnamed_value c (length (count_text c))))
+pub end_line_lem : (c : ℕ) → c < 10 ^ count_digits → LineRead (end_line c) (line_with Key.End (unnamed_value c (length (count_text c))))
 end_line_lem c h =
     line_reads Key.End (count_text c) (unnamed_value c (length (count_text c)))
     (λ rest. rw (count_reads c (lf ∷ rest) h (run_no decimal_byte lf rest feed_no_digit)))

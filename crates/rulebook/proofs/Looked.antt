@@ -23,7 +23,7 @@ use Rattle.rules.specs.declared.Rule.{Rule}
 use Rattle.accepts.specs.Accepted.{LeftAccepted}
 use Rattle.refusals.specs.Sizes.{most_left}
 use Rattle.scans.specs.Bytes.{name_byte, run_len}
-use Rattle.reader.specs.Names.{first_name, rest_names, every_item, numbers_of_lem, rising}
+use Rattle.reader.specs.Names.{first_name, rest_names, every_item, numbers_of, rising}
 use Rattle.reader.specs.Lines.{left_places, right_item_at}
 use Rattle.reader.proofs.LookUps.{right_none, right_some}
 use Rattle.writer.specs.Texts.{pieces}
@@ -84,8 +84,8 @@ module _ (t : List ℕ) (n : ℕ) (name : ℕ → List ℕ) (item : ℕ → ℕ)
       rw (first_here k l rest (omega arith), found k (omega arith), rest_here k l rest (omega arith))
       (every_item_lem d (suc k) rest (omega arith))
 
-  pub numbers_of_lem : (d k : ℕ) (rest : List ℕ) → k + d ≡ c → numbers_of_lem t n d (pieces (signed name c) k d ++ rest) ≡ numbered item k d
-  unfolding numbers_of_lem pieces
+  pub numbers_of_lem : (d k : ℕ) (rest : List ℕ) → k + d ≡ c → numbers_of t n d (pieces (signed name c) k d ++ rest) ≡ numbered item k d
+  unfolding numbers_of pieces
   numbers_of_lem zero k rest e = refl
   numbers_of_lem (suc d) k rest e =
       let l = pieces (signed name c) (suc k) d in

@@ -31,7 +31,7 @@ use Rattle.lines.specs.Lines.{line_len}
 use Rattle.lines.specs.declared.Line.{Line}
 use Rattle.reader.specs.declared.ReadBook.{ReadBook}
 use Rattle.reader.specs.Names.{every_item}
-use Rattle.reader.specs.Lines.{State, result_of, on, stop, item_name, with_item, item_step, left_numbers, right_found, rule_of, with_rule, all_found, rule_step, end_step_lem}
+use Rattle.reader.specs.Lines.{State, result_of, on, stop, item_name, with_item, item_step, left_numbers, right_found, rule_of, with_rule, all_found, rule_step, end_step}
 use Rattle.writer.specs.Texts.{pieces, item_line, left_text, right_text, rule_key, rule_line}
 use Rattle.laws.proofs.Buffers.{SameFront, same_more}
 use Rattle.rulebook.proofs.KindKeys.{kind_key}
@@ -210,8 +210,8 @@ abbrev pub end_read : ℕ → Line
 end_read c = line_with Key.End (unnamed_value c (length (count_text c)))
 
 pub end_step_lem : {t w : List ℕ} {n m : ℕ} {st : State} → Filled t w n m st → (l : List ℕ) → length l ≡ line_len (end_read (1 + n + m))
-    → end_step_lem st l (end_read (1 + n + m)) ≡ stop (result_of st (ReadBook.Book (record { items = n; rules = m })))
-unfolding end_step_lem
+    → end_step st l (end_read (1 + n + m)) ≡ stop (result_of st (ReadBook.Book (record { items = n; rules = m })))
+unfolding end_step
 end_step_lem {n = n} {m = m} {st = st} f l e =
     rw (
       eq-eqb (1 + n + m) st.counts.lines (sym f.lines),

@@ -15,7 +15,7 @@ use Rattle.refusals.specs.Sizes.{most_rules}
 use Rattle.reader.specs.declared.ReadBook.{ReadBook}
 use Rattle.reader.specs.Lines.{State, start, Result, result_of}
 use Rattle.reader.specs.Reading.{read_text}
-use Rattle.writer.specs.Texts.{pieces, form_line, item_line, item_lines, rule_line, rule_lines, end_line_lem, book_text}
+use Rattle.writer.specs.Texts.{pieces, form_line, item_line, item_lines, rule_line, rule_lines, end_line, book_text}
 use Rattle.accepts.specs.Tables.{Tables, SameTables}
 use Rattle.rulebook.specs.RoundTrip.{Words}
 use Rattle.laws.proofs.Buffers.{same_take}
@@ -59,27 +59,27 @@ module _ {h : Head} {t w : List ℕ} (a : Tables h t w) (u : Words w) where
   }
 
   end_reads : {st : State} → Filled t w n m st → 1 ≤ st.counts.after → st.counts.after ≤ 5
-      → Reads (Back h t w) st (end_line_lem (1 + n + m))
+      → Reads (Back h t w) st (end_line (1 + n + m))
   end_reads {st} f some most =
       let x = end_line_lem (1 + n + m) (omega (arith, a.items.size, a.rules.accepted.rules)) in
-      subst (Reads (Back h t w) st) (append-nil (end_line_lem (1 + n + m)))
+      subst (Reads (Back h t w) st) (append-nil (end_line (1 + n + m)))
       (reads_end x [] (row_next (record { some = some; rise = omega arith }) (omega arith) (omega arith))
-      (end_step_lem f (end_line_lem (1 + n + m) ++ []) (ap length (append-nil (end_line_lem (1 + n + m))) ∙ sym x.size))
+      (end_step_lem f (end_line (1 + n + m) ++ []) (ap length (append-nil (end_line (1 + n + m))) ∙ sym x.size))
       (back f))
 
   abbrev rules_from : ℕ → ℕ → List ℕ
   rules_from r c = pieces (λ k. rule_line t (rule_at w k)) r c
 
   rules_read : (c r : ℕ) → r + c ≡ m → {st : State} → Filled t w n r st → MayCome w m r st.counts.after
-      → Reads (Back h t w) st (rules_from r c ++ end_line_lem (1 + n + m))
+      → Reads (Back h t w) st (rules_from r c ++ end_line (1 + n + m))
   unfolding pieces
   rules_read zero r e {st} f g = end_reads (subst (λ (k : ℕ). Filled t w n k st) (omega arith) f) g.some g.most
   rules_read (suc c) r e {st} f g =
       let stands = a.rules.accepted.each r (omega arith) in
-      let rest = rules_from (suc r) c ++ end_line_lem (1 + n + m) in
+      let rest = rules_from (suc r) c ++ end_line (1 + n + m) in
       let kind : KindKey (rule_at w r).kind = kind_key (rule_at w r).kind stands.accepted.kind in
       let few : r < most_rules = omega (arith, a.rules.accepted.rules) in
-      rw (append_assoc (rule_line t (rule_at w r)) (rules_from (suc r) c) (end_line_lem (1 + n + m)))
+      rw (append_assoc (rule_line t (rule_at w r)) (rules_from (suc r) c) (end_line (1 + n + m)))
       (reads_line (rule_line_lem a.items (rule_at w r) stands.accepted (marks_small u r)) rest
       (kind_next (rule_at w r).kind stands.accepted.kind g.some (g.rule (omega arith)))
       (kind_step (rule_at w r).kind st _ _ ∙ rule_step_lem a.items (rule_at w r) stands.accepted rest f few)
@@ -91,15 +91,15 @@ module _ {h : Head} {t w : List ℕ} (a : Tables h t w) (u : Words w) where
       })))
 
   items_read : (c i : ℕ) → i + c ≡ n → {st : State} → Filled t w i 0 st → NextRow st.counts.after 1
-      → Reads (Back h t w) st (pieces (item_line t) i c ++ (rules_from 0 m ++ end_line_lem (1 + n + m)))
+      → Reads (Back h t w) st (pieces (item_line t) i c ++ (rules_from 0 m ++ end_line (1 + n + m)))
   unfolding pieces
   items_read zero i e {st} f g =
       rules_read m 0 (zero-add m) (subst (λ (k : ℕ). Filled t w k 0 st) (omega arith) f)
       (record { some = g.some; most = omega (arith, g.rise); rule = λ h. omega (arith, g.rise) })
   items_read (suc c) i e {st} f g =
-      let rest = pieces (item_line t) (suc i) c ++ (rules_from 0 m ++ end_line_lem (1 + n + m)) in
+      let rest = pieces (item_line t) (suc i) c ++ (rules_from 0 m ++ end_line (1 + n + m)) in
       let inside : i < n = omega arith in
-      subst (Reads (Back h t w) st) (sym (append_assoc (item_line t i) (pieces (item_line t) (suc i) c) (rules_from 0 m ++ end_line_lem (1 + n + m))))
+      subst (Reads (Back h t w) st) (sym (append_assoc (item_line t i) (pieces (item_line t) (suc i) c) (rules_from 0 m ++ end_line (1 + n + m))))
       (reads_line (item_line_lem (name_of t i) (name_is_name a.items i inside)) rest
       (row_next g (omega (arith, g.rise)) (omega arith)) (item_step_lem a.items inside f rest)
       (items_read c (suc i) (omega arith) (item_fills a.items inside f rest)
@@ -111,7 +111,7 @@ unfolding book_text
 write_read {h} {t} {w} a u = whole.reads (length (book_text h t w)) (le_refl _)
   where
     end : List ℕ
-    end = end_line_lem (1 + h.items + h.rules)
+    end = end_line (1 + h.items + h.rules)
 
     filled : Filled t w 0 0 (form_next start)
     filled = record {

@@ -1,6 +1,8 @@
 // The rule: as a record by value, and in a flat lent table of words; and the head of a book.
 //
 // Nothing here refuses. A reader past the table's end finds zero, and what has no room is not put.
+#![tactic(auto)]
+
 ghost use Rattle.std.specs.Prelude.{◌≡◌};
 ghost use Rattle.labels.specs.Labels.{labels_in};
 ghost use Rattle.meaning.specs.Rules.{join_over};

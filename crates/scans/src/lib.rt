@@ -1,6 +1,8 @@
 // The bytes of a text at a place: one byte, and the length of a run of bytes of one kind.
 //
 // Every function takes any place. Past a text's end there is nothing.
+#![tactic(auto)]
+
 ghost use Rattle.std.specs.Prelude.{◌≡◌, ◌-◌, length, drop};
 ghost use Rattle.scans.specs.Bytes.{byte_at, name_byte, decimal_byte, hex_byte, kind_of, run_len};
 

@@ -1,4 +1,6 @@
 // Solving: the wanted labels of a book that stands in a flat table of rules.
+#![tactic(auto)]
+
 ghost use Rattle.std.specs.Prelude.{◌≡◌};
 ghost use Rattle.refusals.specs.Said.{refused_by};
 ghost use Rattle.solver.specs.Solving.{held, said_solved, SolveSays};

@@ -1,5 +1,7 @@
 // The stripping program, `strip BOOK CLASS`: cuts the export on standard input down to what a reader of this class may see by this rulebook, on
 // standard output. A refusal goes to standard error.
+#![tactic(auto)]
+
 mod export;
 mod input;
 mod refusal;

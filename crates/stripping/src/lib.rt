@@ -1,4 +1,6 @@
 // Stripping: the records at the front of a text, with only the columns that are kept.
+#![tactic(auto)]
+
 mod row;
 
 ghost use Rattle.std.specs.Prelude.{◌≡◌, ◌&&◌, eqb};

@@ -1,6 +1,8 @@
 // The tokens at a place of a text: names, counts and classes, each with its length, or Bad.
 //
 // Every function takes any place. Past a text's end there is nothing, so that no token stands there.
+#![tactic(auto)]
+
 mod numbers;
 
 ghost use Rattle.std.specs.Prelude.{◌≡◌, ◌≤◌, drop};

@@ -1,6 +1,8 @@
 // Writing: the text of a rulebook from its two tables, and the text of a labelling.
 //
 // Each function writes from the front of a lent buffer. Where it refuses, the buffer is as it was; else what lies behind the text is as it was.
+#![tactic(auto)]
+
 mod book;
 mod labelled;
 
