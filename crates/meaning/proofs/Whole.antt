@@ -45,9 +45,9 @@ module _ (P : Parts) (W : PartLaws P) where
 
   -- A rule is met exactly if it is met in every part.
   pub met_part : (r : Rule Val) (f : Labels) → Met P.values r f → (p : ℕ) → p < P.count → Met (part_values P p) (map_rule (P.part p) r) (part_of p f)
-  met_part (cap i v) f m p s = W.Below-parts _ _ m p s
-  met_part (floor l v) f m p s = subst (λ x. P.part p v ≤ x) (joins_parts p s l.count (λ k. f (l.item k))) (W.Below-parts _ _ m p s)
-  met_part (follow l i) f m p s = subst (λ x. P.part p (f i) ≤ x) (joins_parts p s l.count (λ k. f (l.item k))) (W.Below-parts _ _ m p s)
+  met_part (cap i v) f m p s = W.below_parts _ _ m p s
+  met_part (floor l v) f m p s = subst (λ x. P.part p v ≤ x) (joins_parts p s l.count (λ k. f (l.item k))) (W.below_parts _ _ m p s)
+  met_part (follow l i) f m p s = subst (λ x. P.part p (f i) ≤ x) (joins_parts p s l.count (λ k. f (l.item k))) (W.below_parts _ _ m p s)
 
   pub part_met : (r : Rule Val) (f : Labels) → ((p : ℕ) → p < P.count → Met (part_values P p) (map_rule (P.part p) r) (part_of p f)) → Met P.values r f
   part_met (cap i v) f m = W.parts_below _ _ m
@@ -73,7 +73,7 @@ module _ (P : Parts) (W : PartLaws P) where
   ordered : Ordered P.values
   ordered = record {
     discrete = W.discrete;
-    antisymmetric = λ x y is it p q. W.same_parts x y is it (λ k s. omega (arith, W.Below-parts x y p k s, W.Below-parts y x q k s));
+    antisymmetric = λ x y is it p q. W.same_parts x y is it (λ k s. omega (arith, W.below_parts x y p k s, W.below_parts y x q k s));
   }
 
   module _ (b : Book Val) (inside : Inside b) where
@@ -152,7 +152,7 @@ module _ (P : Parts) (W : PartLaws P) where
       other_below : (i : ℕ) → FirstDifference b.items (part_of p f) h i → P.part p (f i) ≤ h i
       other_below i d =
           subst (λ k. P.part p (f i) ≤ k) (other_part i d.item)
-          (W.Below-parts _ _
+          (W.below_parts _ _
           (x.least other (assemble_labelling values_of all_labelling) i
           (record {
             item = d.item;

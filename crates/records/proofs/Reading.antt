@@ -12,7 +12,6 @@ use lib.ListN.{length, take, drop, set, length-drop, length-append, length-set}
 use lib.Seq.{drop-drop}
 use mir.Syntax.{w64}
 use mir.Val.{Fits}
-use types.Run.{OneOf}
 use denote.Enum as enum
 use Rattle.laws.specs.Over.{over}
 use Rattle.laws.proofs.Over.{over_none, set_over, over_length, over_over}
@@ -24,17 +23,6 @@ use Rattle.records.specs.declared.Size.{Size}
 use Rattle.records.specs.contracts.Field as field
 use Rattle.records.proofs.Within.{comma_within, len_within}
 use Rattle.records.proofs.Come.{Come, come_start, come_on, come_ended, come_too_many}
-
--- The other variants are no Comma.
-no_comma : (f : Field) → OneOf (1 ∷ 2 ∷ 3 ∷ 4 ∷ 5 ∷ []) (enum.Declared.tag_of field.the_type f) → (n : ℕ) → f ≡ Field.Comma n → ⊥
-no_comma f h n e = other (subst (λ (g : Field). OneOf (1 ∷ 2 ∷ 3 ∷ 4 ∷ 5 ∷ []) (enum.Declared.tag_of field.the_type g)) e h)
-  where
-    other : OneOf (1 ∷ 2 ∷ 3 ∷ 4 ∷ 5 ∷ []) 0 → ⊥
-    other (inl d) = omega arith
-    other (inr (inl d)) = omega arith
-    other (inr (inr (inl d))) = omega arith
-    other (inr (inr (inr (inl d)))) = omega arith
-    other (inr (inr (inr (inr d)))) = omega arith
 
 -- One end more is stored behind those before it.
 set_more : (d x : List ℕ) (c e : ℕ) → length x ≡ c → c < length d → set (over d 0 x) c e ≡ over d 0 (x ++ e ∷ [])
@@ -143,7 +131,7 @@ module _ {l : List ℕ} {at most : ℕ} {ends₀ ends : List ℕ} {room i c : �
         ∙ ap (over ends₀ 0) (sym g)
 
     -- No comma stands behind the next field: the record ends with it.
-    pub row_last : (last : Bool) {k : ℕ} {r : Size} → c < room → OneOf (1 ∷ 2 ∷ 3 ∷ 4 ∷ 5 ∷ []) (enum.Declared.tag_of field.the_type f)
+    pub row_last : (last : Bool) {k : ℕ} {r : Size} → c < room → ((n : ℕ) → f ≡ Field.Comma n → ⊥)
         → k ≡ length l - at → r ≡ ended_by last k (c + 1) (i - at) f → RowSays l at last most ends₀ r (set ends c (i + len))
     row_last last {k} {r} h o j g = ending p.left p.come p.rest
       where
@@ -157,11 +145,11 @@ module _ {l : List ℕ} {at most : ℕ} {ends₀ ends : List ℕ} {room i c : �
             → RowSays l at last most ends₀ r (set ends c (i + len))
         ending zero q y = absurd (omega (arith, q.count, p.count))
         ending (suc left) q y =
-            says last (sized ∙ sym (come_ended q last f here (no_comma f o)))
+            says last (sized ∙ sym (come_ended q last f here o))
             (stored h
             (y
             ∙ ap (λ (x : List ℕ). p.done ++ x)
-            (ends_last left i (drop i l) f (sym e) (no_comma f o) ∙ ap (λ (n : ℕ). (i + n) ∷ []) (sym d))))
+            (ends_last left i (drop i l) f (sym e) o ∙ ap (λ (n : ℕ). (i + n) ∷ []) (sym d))))
 
     -- A comma does: one field more is read.
     module _ {n : ℕ} (g : f ≡ Field.Comma n) where

@@ -1,0 +1,12 @@
+-- `closing` meets its contract. The loop's invariant: i is a place between quotes. The measure is what is left of the text. Assumes nothing.
+use Prim.Native.Nat.{◌-◌}
+use lib.ListN.{length}
+use Rattle.records.specs.Fields.{quoted}
+use Rattle.records.proofs.Past.{Past}
+use Rattle.records.proofs.closing.Given as goal
+
+abbrev pub invariant-loop-i : goal.invariant-loop-i
+invariant-loop-i l = Past quoted l.text l.at l.i
+
+abbrev pub decreases-loop-i : goal.decreases-loop-i
+decreases-loop-i l = length l.text - l.i
