@@ -8,7 +8,7 @@ use Rattle.puts.proofs.Puts.{class_nowhere, level_room, slash_in, slash_fits, ma
 use Rattle.puts.proofs.put_class.Goals as goal
 
 pub overflow_add-k : goal.overflow_add-k
-overflow_add-k c = omega (arith, c.decimal_len_lem.ensures, decimal_most c.args.class.level)
+overflow_add-k c = omega (arith, c.decimal_len-k.ensures, decimal_most c.args.class.level)
 
 pub returns-then-not-has_room : goal.returns-then-not-has_room
 returns-then-not-has_room c = search (class_nowhere, rules)
@@ -24,11 +24,6 @@ overflow_add-slash c = search (slash_fits, rules)
 
 pub put_digits-requires : goal.put_digits-requires
 put_digits-requires c = search (marks_room, rules)
-
-pub shape_of-out : goal.shape_of-out
-shape_of-out c =
-    c.put_digits.auto.1.1.1.0
-    ∙ simp length-set c.put_digits-slash.auto.1.1.1.0
 
 pub returns : goal.returns
 returns c = search (class_there, rules)
