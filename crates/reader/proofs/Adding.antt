@@ -8,7 +8,6 @@ use mathlib.Core.Logic.{inl, inr}
 use Prim.Native.Nat.{ℕ, ◌*◌, ◌≤◌, ◌<◌}
 use native.Mathlib.Omega.{arith}
 use lib.ListN.{drop, replicate}
-use types.Run.{OneOf}
 use denote.Enum as enum
 use borrow.Author.Tests.{lt-ltb, le-ltb, le-leb, lt-leb, not-true, not-false}
 use Rattle.refusals.specs.Sizes.{most_items, most_rules, most_left}
@@ -30,9 +29,8 @@ use Rattle.reader.specs.InnerAdding.{LooksUp, NameReady, ItemAdded, NamesReady, 
 use Rattle.reader.proofs.LookUps.{not_item}
 
 -- What is not Absent was given before.
-not_absent : (x : Found) → OneOf (0 ∷ 2 ∷ []) (enum.Declared.tag_of found.the_type x) → is_absent x ≡ false
-not_absent Found.Absent (inl e) = absurd (omega arith)
-not_absent Found.Absent (inr e) = absurd (omega arith)
+not_absent : (x : Found) → (x ≡ Found.Absent → ⊥) → is_absent x ≡ false
+not_absent Found.Absent h = absurd (h refl)
 not_absent (Found.At i) h = refl
 not_absent (Found.Refused r) h = refl
 
@@ -41,7 +39,7 @@ module _ {t : List ℕ} {n : ℕ} {name : List ℕ} where
   pub item_full : most_items ≤ n → ItemAdded t n name (Added.No Fault.TooMany) t
   item_full h = record { told = rw (le-ltb n most_items h); table = refl }
 
-  pub item_twice : (y : Found) → n < most_items → FindSays t n name (said_found y) → OneOf (0 ∷ 2 ∷ []) (enum.Declared.tag_of found.the_type y)
+  pub item_twice : (y : Found) → n < most_items → FindSays t n name (said_found y) → (y ≡ Found.Absent → ⊥)
       → ItemAdded t n name (Added.No Fault.NameTwice) t
   item_twice y h e o =
       let found : find_in t n name ≡ y = sym (find_told e) in
@@ -74,7 +72,7 @@ module _ {t : List ℕ} {n : ℕ} {l : List ℕ} {from kind : ℕ} {v : Value} {
       }
 
       module _ (h : not b ≡ false) {y : Found} (i : y ≡ right_added t n l from v) where
-        pub rule_no_right : OneOf (1 ∷ 2 ∷ []) (enum.Declared.tag_of found.the_type y) → RuleAdded t n l from kind v w r (Added.No Fault.NoSuchItem) w
+        pub rule_no_right : ((i : ℕ) → y ≡ Found.At i → ⊥) → RuleAdded t n l from kind v w r (Added.No Fault.NoSuchItem) w
         rule_no_right o = record {
           told = rw (lt-ltb r most_rules few, le-leb v.names most_left eight, ← f.told, not-false b h, ← i, not_item y o);
           table = refl;

@@ -13,7 +13,6 @@ use lib.ListN.{length, get_or, set, take, drop, drop_of_length-le, length-drop, 
 use lib.Seq.{take_all, drop-drop}
 use mir.Syntax.{w64}
 use mir.Val.{Fits}
-use types.Run.{OneOf}
 use denote.Enum as enum
 use borrow.Author.Tests.{eq-eqb, ne_eqb, lt-ltb, ltb-true}
 use Rattle.laws.specs.Every.{every_below}
@@ -33,9 +32,8 @@ use Rattle.reader.specs.Lines.{right_item_at}
 use Rattle.reader.specs.InnerAdding.{LookReady, LooksUp}
 
 -- What is not At is no item.
-pub not_item : (x : Found) → OneOf (1 ∷ 2 ∷ []) (enum.Declared.tag_of found.the_type x) → is_item x ≡ false
-not_item (Found.At i) (inl e) = absurd (omega arith)
-not_item (Found.At i) (inr e) = absurd (omega arith)
+pub not_item : (x : Found) → ((i : ℕ) → x ≡ Found.At i → ⊥) → is_item x ≡ false
+not_item (Found.At i) h = absurd (h i refl)
 not_item Found.Absent h = refl
 not_item (Found.Refused r) h = refl
 
@@ -150,7 +148,7 @@ module _ {text : List ℕ} {at count : ℕ} {t : List ℕ} {n : ℕ} {left₀ le
     unfolding numbers_of
     numbers = rw (next, first, rest)
 
-    pub looking_absent : OneOf (1 ∷ 2 ∷ []) (enum.Declared.tag_of found.the_type x) → LooksUp t n count (drop at text) left₀ false left
+    pub looking_absent : ((i : ℕ) → x ≡ Found.At i → ⊥) → LooksUp t n count (drop at text) left₀ false left
     looking_absent g = record {
       told = sym (sym w.told ∙ step ∙ rw (not_item x g));
       items = λ z. absurd (true_not_false z refl);

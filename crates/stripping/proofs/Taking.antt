@@ -12,7 +12,6 @@ use lib.Dec.{eqb}
 use lib.ListN.{length, length-append}
 use mir.Syntax.{w64}
 use mir.Val.{Fits}
-use types.Run.{OneOf}
 use denote.Enum as enum
 use borrow.Author.Tests.{eq-eqb, ne_eqb}
 use Rattle.records.specs.Rows.{most_fields, RowSays, start_at}
@@ -107,14 +106,13 @@ module _ {l : List ℕ} {last : Bool} {kept : List Bool} {d₀ d ends₀ : List 
 
   -- A record is not whole.
   pub take_stopped : {found₀ found : Size} {ends : List ℕ} {b : Bool} → at < length l → RowSays l at last (length kept) ends₀ found₀ ends
-      → found ≡ fitted_size (length kept) found₀ → OneOf (1 ∷ 2 ∷ []) (enum.Declared.tag_of size.the_type found) → b ≡ (eqb n 0 && is_bad found)
+      → found ≡ fitted_size (length kept) found₀ → ((x : Extent) → found ≡ Size.Whole x → ⊥) → b ≡ (eqb n 0 && is_bad found)
       → FrontSays l last kept d₀ (record { cut = record { used = at; len = to; records = n }; refused = b }) d
   take_stopped {found = found} {ends} {b} h q f o e = by (row_found q f room h) o e
     where
-      by : {r : Size} → RowFound l at last (length kept) ends r → OneOf (1 ∷ 2 ∷ []) (enum.Declared.tag_of size.the_type r) → b ≡ (eqb n 0 && is_bad r)
+      by : {r : Size} → RowFound l at last (length kept) ends r → ((x : Extent) → r ≡ Size.Whole x → ⊥) → b ≡ (eqb n 0 && is_bad r)
           → FrontSays l last kept d₀ (record { cut = record { used = at; len = to; records = n }; refused = b }) d
-      by (is_whole w) (inl z) g = absurd (omega arith)
-      by (is_whole w) (inr z) g = absurd (omega arith)
+      by (is_whole w) x g = absurd (x _ refl)
       by (is_more w) x g =
           subst (λ (y : Bool). FrontSays l last kept d₀ (record { cut = record { used = at; len = to; records = n }; refused = y }) d) (sym g)
           (front (gone_more p.gone w))
