@@ -15,18 +15,12 @@ label-outcome-requires c = search (start_bounded, rules)
 
 pub copy-requires : goal.copy-requires
 copy-requires c =
-    let after = c.before in
-    let tested = after.before.before.before in
-    let asked = tested.before.before.before.before in
-    let room = copy_levels asked.before.rules-ok.ensures asked.if1.false tested.before.has_room.ensures tested.if2.false after.label.auto.1.1.0 in
+    let room = copy_levels c.rules_ok.ensures c.if-not-rules_ok.false-raw c.has_room.ensures c.if-not-has_room.false-raw c.label-outcome.auto.levels in
     omega (arith, room)
 
 pub copy-requires-in-Done : goal.copy-requires-in-Done
 copy-requires-in-Done c =
-    let after = c.before in
-    let tested = after.before.before.before in
-    let asked = tested.before.before.before.before in
-    let room = copy_marks asked.before.rules-ok.ensures asked.if1.false tested.before.has_room.ensures tested.if2.false after.label.auto.1.1.1.0 in
+    let room = copy_marks c.rules_ok.ensures c.if-not-rules_ok.false-raw c.has_room.ensures c.if-not-has_room.false-raw c.label-outcome.auto.marks in
     omega (arith, room)
 
 pub returns-in-Without : goal.returns-in-Without

@@ -1,0 +1,29 @@
+-- `find_items` meets its contract. The loop's invariant: the names before are items, and none is repeated. The measure is how many are left. Assumes nothing.
+use Prim.Native.Nat.{◌-◌}
+use borrow.Author.Rules.{rules}
+use Rattle.columns.proofs.Looking.{look_none, look_field, look_absent, look_held, look_repeated, look_room, look_more, look_all}
+use Rattle.columns.proofs.header.find_items.Goals as goal
+
+pub loop-c-init : goal.loop-c-init
+loop-c-init c = search (look_none, rules)
+
+pub item_named-requires : goal.item_named-requires
+item_named-requires c = search (look_field, rules)
+
+pub returns-in_default : goal.returns-in_default
+returns-in_default c = search (look_absent, rules)
+
+pub holds-requires : goal.holds-requires
+holds-requires c = search (look_held, rules)
+
+pub returns-then-holds : goal.returns-then-holds
+returns-then-holds c = search (look_repeated, rules)
+
+pub bounds-numbers-c : goal.bounds-numbers-c
+bounds-numbers-c c = search (look_room, rules)
+
+pub loop-c-preserved : goal.loop-c-preserved
+loop-c-preserved c = search (look_more, rules)
+
+pub returns : goal.returns
+returns c = search (look_all, rules)
