@@ -8,7 +8,6 @@ use mathlib.Core.Logic.{inl, inr}
 use Prim.Native.Nat.{ℕ, ◌≤◌, ◌<◌}
 use native.Mathlib.Omega.{arith}
 use lib.ListN.{length, take, drop}
-use types.Run.{OneOf}
 use denote.Enum as enum
 use Rattle.classes.specs.declared.Class.{Class}
 use Rattle.refusals.specs.declared.Fault.{Fault}
@@ -116,13 +115,12 @@ module _ {t : List ℕ} {n : ℕ} {l : List ℕ} {last : Bool} {numbers : List �
 
 -- What is said where it is not good.
 pub by_other : {t : List ℕ} {n : ℕ} {labels : ℕ → Class} {reader : Class} {l : List ℕ} {last : Bool} {before : List Bool} {numbers : List ℕ} {x : Columns}
-    → HeadSays t n l last numbers x → OneOf (1 ∷ 2 ∷ []) (enum.Declared.tag_of columns.the_type x)
+    → HeadSays t n l last numbers x → ((k : ℕ) → x ≡ Columns.Kept k → ⊥)
     → HeaderSays t n labels reader l last before (said_columns x) before
 by_other (no_header h) o = bad_header h
 by_other (part_header h) o = more_header h
 by_other (no_names h b) o = bad_names h b
-by_other (good_header h) (inl z) = absurd (omega arith)
-by_other (good_header h) (inr z) = absurd (omega arith)
+by_other (good_header h) o = absurd (o _ refl)
 
 -- What is said where it is.
 pub by_kept : {t : List ℕ} {n : ℕ} {labels : ℕ → Class} {reader : Class} {l : List ℕ} {last : Bool} {before : List Bool} {numbers : List ℕ} {x : Columns}

@@ -10,7 +10,6 @@ use native.Mathlib.Decide.{dec_le}
 use native.Mathlib.Omega.{arith}
 use lib.ListN.{length, get_or, take, drop, set, length-set}
 use lib.Seq.{get_or-set_same, get_or-set_other}
-use types.Run.{OneOf}
 use denote.Enum as enum
 use Rattle.laws.specs.Tells.{Tells}
 use Rattle.laws.proofs.Bools.{true_not_false}
@@ -25,14 +24,6 @@ use Rattle.records.specs.Inner.{FieldSpan, fields_to}
 use Rattle.records.proofs.Parts.{fields_count, fields_at}
 use Rattle.exports.specs.Names.{unquoted, name_in, column_item}
 use Rattle.columns.specs.Inner.{IsField, HoldsNumber, HeaderReady, FindsItems}
-
--- The other variants are no At.
-not_found : (x : Found) → OneOf (1 ∷ 2 ∷ []) (enum.Declared.tag_of found.the_type x) → (i : ℕ) → x ≡ Found.At i → ⊥
-not_found x h i e = other (subst (λ (y : Found). OneOf (1 ∷ 2 ∷ []) (enum.Declared.tag_of found.the_type y)) e h)
-  where
-    other : OneOf (1 ∷ 2 ∷ []) 0 → ⊥
-    other (inl d) = omega arith
-    other (inr d) = omega arith
 
 -- Two names that are found at one item are equal.
 one_name : (t : List ℕ) (n : ℕ) (x y : List ℕ) (i : ℕ) → find_in t n x ≡ Found.At i → find_in t n y ≡ Found.At i → x ≡ y
@@ -107,9 +98,9 @@ module _ {t : List ℕ} {n : ℕ} {l ends : List ℕ} {fields : ℕ} {numbers₀
       column = ap (λ (y : List ℕ). find_in t n (unquoted y)) (fields_at l 0 ends fields c h ∙ sym is) ∙ sym g
 
       -- A name that is no item.
-      pub look_absent : OneOf (1 ∷ 2 ∷ []) (enum.Declared.tag_of found.the_type x) → FindsItems t n (fields_to l 0 ends fields) false numbers
+      pub look_absent : ((i : ℕ) → x ≡ Found.At i → ⊥) → FindsItems t n (fields_to l 0 ends fields) false numbers
       look_absent o = record {
-        told = tells_no (λ ok. let known = ok.known c (omega (arith, count)) in not_found x o known.item (sym column ∙ known.found));
+        told = tells_no (λ ok. let known = ok.known c (omega (arith, count)) in o known.item (sym column ∙ known.found));
         items = λ z. absurd (true_not_false z refl);
       }
 

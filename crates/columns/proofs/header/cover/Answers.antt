@@ -12,6 +12,7 @@ pub loop-c-preserved : goal.loop-c-preserved
 loop-c-preserved c = (
   cover_more c.loop-c.invariant.0 (omega arith) c.label_at.ensures c.covers.ensures,
   omega arith,
+)
 
 pub returns : goal.returns
 returns c = cover_all (omega arith) c.loop-c.invariant.0

@@ -12,7 +12,7 @@ returns-then-export-eq0 c = search (head_empty, rules)
 pub find_items-requires : goal.find_items-requires
 find_items-requires c =
     head_ready c.read_row.ensures (search rules)
-    c.if-export-eq0.false c.header-1.given.1 (search rules)
+    c.if-export-eq0.false c.in-Whole.is (search rules)
 
 pub returns-then-find_items : goal.returns-then-find_items
 returns-then-find_items c = search (head_good, rules)
