@@ -2,7 +2,7 @@
 -- both, each item has that mark in both or in neither, or the same level. What is printed is labels or a refusal. It rests on the theorem about books, and on what is
 -- read being right.
 -- Assumes nothing.
-use mathlib.Core.Path.{refl, sym, subst}
+use mathlib.Core.Path.{◌≡◌, refl, sym, subst}
 use mathlib.Core.List.{List, [], ◌∷◌}
 use Prim.Native.Nat.{ℕ, ◌<◌}
 use lib.ListN.{length, take}
@@ -16,11 +16,13 @@ use Rattle.rules.specs.declared.Head.{Head}
 use Rattle.rules.proofs.Agreeing.{tables_agree}
 use Rattle.accepts.proofs.Inside.{table_inside}
 use Rattle.reader.specs.Agreeing.{TextsAgree}
+use Rattle.reader.specs.Reading.{read_text, read_whole}
+use Rattle.reader.specs.declared.ReadBook.{ReadBook}
 use Rattle.reader.proofs.Agreeing.{texts_agree}
 use Rattle.reader.proofs.Books.{read_tables}
 use Rattle.writer.specs.Writing.{said_written}
 use Rattle.writer.specs.declared.Written.{Written}
-use Rattle.answers.specs.Answering.{no_labelling, unlabelled, labelled, AnswerSays, unread, book, PrintsLabels, Printed, refusal, labelling, RoutineSays, no_room, written}
+use Rattle.answers.specs.Answering.{no_labelling, BookPrints, unlabelled, labelled, AnswerSays, unread, book, PrintsLabels, Printed, refusal, labelling, RoutineSays, no_room, written}
 
 pub answer_one_part_alone : {l m x y : List ℕ} {h k : Head} {levels marks levels' marks' : List ℕ} {p : ℕ} → p < part_count → TextsAgree p l m
     → PrintsLabels l x h levels marks → PrintsLabels m y k levels' marks'
@@ -32,8 +34,11 @@ answer_one_part_alone {l} {m} is_part agree a b =
 -- What is printed is labels or a refusal.
 pub answer_printed : {l x : List ℕ} → AnswerSays l x → Printed l x
 answer_printed (unread {r} e) = refusal r refl
-answer_printed (book e (unlabelled {p} x)) = refusal (no_labelling p) refl
-answer_printed (book {h} e (labelled levels marks x)) = labelling h levels marks (record { whole = e; wanted = x; text = refl })
+answer_printed {l} (book {h} e prints) = printed prints e
+  where
+    printed : {x : List ℕ} → BookPrints h (read_text l).names (read_text l).words x → read_whole l ≡ ReadBook.Book h → Printed l x
+    printed (unlabelled {p} x) e = refusal (no_labelling p) refl
+    printed (labelled levels marks x) e = labelling h levels marks (record { whole = e; wanted = x; text = refl })
 
 -- What the routine writes is that text.
 abbrev Wrote : List ℕ → Said → List ℕ → Type 0
