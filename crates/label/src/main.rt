@@ -2,19 +2,21 @@
 #![tactic(auto)]
 
 use answers::answer;
-use libc::{STDIN_FILENO, STDOUT_FILENO};
+use fills::fill;
 use refusals::MOST_TEXT;
+use std::io;
+use std::io::Print;
 use writer::Written;
 
 // One byte more than the longest text, so that a longer one is seen as such without reading on.
 const ENOUGH: usize = MOST_TEXT + 1;
 
-fn main() {
+fn main(rt: HostRuntime) -> io::Result<()> {
     let mut input = [0u8; ENOUGH];
-    let n = io::read_full(STDIN_FILENO, &mut input);
+    let n = fill(&mut rt.stdin(), &mut input)?;
     let mut out = [0u8; MOST_TEXT];
     let Written::Text(len) = answer(&input[..n], &mut out) else {
-        return;
+        return Ok(());
     };
-    io::write_all(STDOUT_FILENO, &out[..len]);
+    rt.stdout().write_all(&out[..len])
 }

@@ -2,17 +2,18 @@
 // cannot go on by that, one read is made: so what is bad is refused as soon as it is held, and good records are written.
 //
 // The turns of each loop are counted down from a number that no run uses up, since a proved loop has to end.
-ghost use Rattle.std.specs.Prelude.{◌≡◌, ◌≤◌, length};
+ghost use Rattle.std.specs.Prelude.{◌≡◌, ◌≤◌, length, IfOk};
 ghost use Rattle.strip.specs.InnerHeld.{Held, Holds};
 
 use crate::input::{Input, nothing, read_on};
 use crate::refusal::refuse;
 use classes::Class;
 use columns::{Columns, kept_columns};
-use libc::STDOUT_FILENO;
 use records::{LINE_END, MOST_FIELDS};
 use refusals::MOST_TEXT;
 use rules::Head;
+use std::io;
+use std::io::Print;
 use stripping::{Stripped, strip};
 
 // The most that is made of the bytes that are held at once: a last record may lack its line end.
@@ -28,7 +29,14 @@ struct Place {
 }
 
 // Strips the export by labelled items and a reader's class. While the header is not whole in what is held, it reads on.
-pub(crate) fn strip_export(items: &[u8], head: Head, levels: &[u64], marks: &[u64], reader: Class) {
+pub(crate) fn strip_export(
+    rt: &HostRuntime,
+    items: &[u8],
+    head: Head,
+    levels: &[u64],
+    marks: &[u64],
+    reader: Class,
+) -> io::Result<()> {
     let mut buf = [0u8; MOST_TEXT];
     let mut kept = [false; MOST_FIELDS];
     let mut input = nothing();
@@ -47,24 +55,29 @@ pub(crate) fn strip_export(items: &[u8], head: Head, levels: &[u64], marks: &[u6
             &mut kept,
         ) {
             Columns::Kept(n) => {
-                strip_records(&kept[..n], &mut buf, have, last);
-                return;
+                return strip_records(rt, &kept[..n], &mut buf, have, last);
             }
             Columns::Refused(refusal) => {
-                refuse(refusal);
-                return;
+                return refuse(rt, refusal);
             }
-            Columns::More => input = read_on(&mut buf, have),
+            Columns::More => input = read_on(rt, &mut buf, have)?,
         }
         if input.failed {
-            return;
+            return Ok(());
         }
         turns -= 1;
     }
+    Ok(())
 }
 
 // Strips the records of the export, the header first, until it has ended or is refused.
-fn strip_records(kept: &[bool], buf: &mut [u8], have: usize, last: bool)
+fn strip_records(
+    rt: &HostRuntime,
+    kept: &[bool],
+    buf: &mut [u8],
+    have: usize,
+    last: bool,
+) -> io::Result<()>
     requires { Holds have buf.old }
 {
     let mut out = [0u8; ROOM_OUT];
@@ -76,53 +89,67 @@ fn strip_records(kept: &[bool], buf: &mut [u8], have: usize, last: bool)
     };
     let mut turns = u64::MAX;
     while turns > 0 {
-        place = strip_held(kept, buf, &mut out, place);
+        place = strip_held(rt, kept, buf, &mut out, place)?;
         if !place.goes_on {
-            return;
+            return Ok(());
         }
         turns -= 1;
     }
+    Ok(())
 }
 
 // One call of `strip` on what is held. A refusal ends the run. Records that were taken are written; where none was, it reads on, or is done at the export's end.
-fn strip_held(kept: &[bool], buf: &mut [u8], out: &mut [u8], place: Place) -> Place
+fn strip_held(
+    rt: &HostRuntime,
+    kept: &[bool],
+    buf: &mut [u8],
+    out: &mut [u8],
+    place: Place,
+) -> io::Result<Place>
     requires { Holds place.have buf.old }
-    ensures { result.have ≤ length buf.new }
+    ensures { IfOk result (λ p. p.have ≤ length buf.new) }
 {
     let have = place.have;
     match strip(&buf[..have], place.last, kept, place.number, out) {
         Stripped::Text(cut) => {
             let len = cut.len;
             if cut.records > 0 {
-                return write_records(&out[..len], buf, cut.used, cut.records, place);
+                return write_records(rt, &out[..len], buf, cut.used, cut.records, place);
             }
             if place.last {
-                return stopped(place);
+                return Ok(stopped(place));
             }
-            after_read(read_on(buf, have), place.number)
+            Ok(after_read(read_on(rt, buf, have)?, place.number))
         }
         Stripped::Refused(refusal) => {
-            refuse(refusal);
-            stopped(place)
+            refuse(rt, refusal)?;
+            Ok(stopped(place))
         }
     }
 }
 
 // Writes the lines of some records, and moves the bytes behind these records to the front of what is held.
-fn write_records(lines: &[u8], buf: &mut [u8], used: usize, records: usize, place: Place) -> Place
+fn write_records(
+    rt: &HostRuntime,
+    lines: &[u8],
+    buf: &mut [u8],
+    used: usize,
+    records: usize,
+    place: Place,
+) -> io::Result<Place>
     requires { Held used place.have buf.old }
-    ensures { result.have ≤ length buf.new }
+    ensures { IfOk result (λ p. p.have ≤ length buf.new) }
 {
-    if !io::write_all(STDOUT_FILENO, lines) {
-        os::fail(b"standard output");
-        return stopped(place);
+    if let Err(error) = rt.stdout().write_all(lines) {
+        eprintln!(rt; "standard output: {error}")?;
+        return Ok(stopped(place));
     }
-    Place {
+    Ok(Place {
         have: move_down(buf, used, place.have),
         last: place.last,
-        number: std::num::wrapping_add_u64(place.number, records as u64),
+        number: place.number.wrapping_add(records as u64),
         goes_on: true,
-    }
+    })
 }
 
 // The place after a read, at the record of this number.

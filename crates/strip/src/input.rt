@@ -1,7 +1,8 @@
-// Reading a file or standard input into a buffer. A read into a buffer with no room left would look like the end of the input, so that none is made.
-ghost use Rattle.std.specs.Prelude.{◌<◌, ◌≤◌, length};
+// Reading standard input into a buffer. A read into a buffer with no room left would look like the end of the input, so that none is made.
+ghost use Rattle.std.specs.Prelude.{◌<◌, ◌≤◌, length, IfOk};
 
-use libc::STDIN_FILENO;
+use std::io;
+use std::io::Read;
 
 // How many bytes a buffer holds, whether the input has ended, and whether reading failed.
 #[derive(Clone, Copy)]
@@ -11,31 +12,26 @@ pub(crate) struct Input {
     pub(crate) failed: bool,
 }
 
-// Reads until the buffer is full, the input ends or reading fails.
-pub(crate) fn fill(fd: i32, buf: &mut [u8]) -> Input
-    ensures { result.have ≤ length buf.new }
+// One read of standard input behind the bytes that are held, however many bytes it gives. That it fails is said on standard error.
+pub(crate) fn read_on(rt: &HostRuntime, buf: &mut [u8], have: usize) -> io::Result<Input>
+    requires { have < length buf.old }
+    ensures { IfOk result (λ i. i.have ≤ length buf.new) }
 {
-    let mut input = nothing();
-    while input.have < buf.len() {
-        let have = input.have;
-        input = read_once(fd, buf, have);
-        if input.have == have {
-            return input;
+    match rt.stdin().read(&mut buf[have..]) {
+        Ok(n) => Ok(Input {
+            have: have + n,
+            last: n == 0,
+            failed: false,
+        }),
+        Err(error) => {
+            eprintln!(rt; "standard input: {error}")?;
+            Ok(Input {
+                have,
+                last: false,
+                failed: true,
+            })
         }
     }
-    input
-}
-
-// One read of standard input behind the bytes that are held, however many bytes it gives. That it fails is said on standard error.
-pub(crate) fn read_on(buf: &mut [u8], have: usize) -> Input
-    requires { have < length buf.old }
-    ensures { result.have ≤ length buf.new }
-{
-    let input = read_once(STDIN_FILENO, buf, have);
-    if input.failed {
-        os::fail(b"standard input");
-    }
-    input
 }
 
 // Nothing is read.
@@ -46,20 +42,5 @@ pub(crate) fn nothing() -> Input
         have: 0,
         last: false,
         failed: false,
-    }
-}
-
-// One read behind the bytes that are held. Where it gives none, the input has ended or reading failed.
-fn read_once(fd: i32, buf: &mut [u8], have: usize) -> Input
-    requires { have < length buf.old }
-    ensures have_le_have { have ≤ result.have }
-    ensures have_in_bounds { result.have ≤ length buf.new }
-{
-    let got = libc::read(fd, &mut buf[have..]);
-    let n = io::count(got, &buf[have..]);
-    Input {
-        have: have + n,
-        last: got == 0,
-        failed: got < 0,
     }
 }

@@ -2,66 +2,79 @@
 // standard output. A refusal goes to standard error.
 #![tactic(auto)]
 
+ghost use Rattle.std.specs.Prelude.{◌≤◌, length, IfOk};
+
+mod arguments;
 mod export;
 mod input;
 mod refusal;
 
+use arguments::{are_two, argument};
 use assign::{Assigned, assign};
 use columns::{Reader, reader_class};
 use export::strip_export;
-use input::fill;
-use libc::STDERR_FILENO;
+use fills::fill;
 use refusal::refuse;
 use refusals::{MOST_ITEMS, MOST_TEXT};
 use rules::Head;
+use std::fs::File;
+use std::io;
 
 // One byte more than the longest rulebook, so that a longer one is seen as such without reading on.
 const ENOUGH: usize = MOST_TEXT + 1;
 
-fn main() {
-    if os::arg_count() != 3 {
-        io::write_all(STDERR_FILENO, b"usage: strip BOOK CLASS\n");
-        return;
+// The most bytes of a path.
+const MOST_PATH: usize = 4096;
+
+fn main(rt: HostRuntime) -> io::Result<()> {
+    if !are_two(&rt) {
+        return eprintln!(rt; "usage: strip BOOK CLASS");
     }
-    let mut path = io::buffer();
-    let n = os::arg(1, &mut path);
-    if os::errno() != 0 {
-        os::fail(b"BOOK");
-        return;
-    }
-    let fd = os::open_read(&path[..n]);
-    if fd < 0 {
-        os::fail(&path[..n]);
-        return;
-    }
+    let mut path = [0u8; MOST_PATH];
+    let Some(n) = argument(&rt, 1, &mut path) else {
+        return eprintln!(rt; "BOOK: File name too long");
+    };
+    let Ok(path) = str::from_utf8(&path[..n]) else {
+        return eprintln!(rt; "BOOK: not UTF-8");
+    };
     let mut book = [0u8; ENOUGH];
-    let read = fill(fd, &mut book);
-    if read.failed {
-        os::fail(&path[..n]);
-        return;
+    match read_book(&rt, path, &mut book) {
+        Ok(len) => run(&rt, &book[..len]),
+        Err(error) => eprintln!(rt; "{path}: {error}"),
     }
-    libc::close(fd);
-    let len = read.have;
-    run(&book[..len]);
+}
+
+// Reads as much of a rulebook as the buffer holds.
+fn read_book(rt: &HostRuntime, path: &str, book: &mut [u8]) -> io::Result<usize>
+    ensures { IfOk result (λ n. n ≤ length book.new) }
+{
+    let mut file = File::open(rt, path)?;
+    fill(&mut file, book)
 }
 
 // Labels the book, and strips the export by it if it is not refused.
-fn run(book: &[u8]) {
+fn run(rt: &HostRuntime, book: &[u8]) -> io::Result<()> {
     let mut items = [0u8; items::WHOLE_TABLE];
     let mut levels = [0u64; MOST_ITEMS];
     let mut marks = [0u64; MOST_ITEMS];
     match assign(book, &mut items, &mut levels, &mut marks) {
-        Assigned::Labelled(head) => run_labelled(&items, head, &levels, &marks),
-        Assigned::Refused(refusal) => refuse(refusal),
+        Assigned::Labelled(head) => run_labelled(rt, &items, head, &levels, &marks),
+        Assigned::Refused(refusal) => refuse(rt, refusal),
     }
 }
 
 // Strips the export for the class that the second argument gives, if it is one. An argument that is too long for the buffer is no class.
-fn run_labelled(items: &[u8], head: Head, levels: &[u64], marks: &[u64]) {
+fn run_labelled(
+    rt: &HostRuntime,
+    items: &[u8],
+    head: Head,
+    levels: &[u64],
+    marks: &[u64],
+) -> io::Result<()> {
     let mut class = [0u8; 64];
-    let k = os::arg(2, &mut class);
+    let k = argument(rt, 2, &mut class).unwrap_or(0);
     match reader_class(&class[..k]) {
-        Reader::Known(reader) => strip_export(items, head, levels, marks, reader),
-        Reader::Refused(refusal) => refuse(refusal),
+        Reader::Known(reader) => strip_export(rt, items, head, levels, marks, reader),
+        Reader::Refused(refusal) => refuse(rt, refusal),
     }
 }
