@@ -2,8 +2,8 @@
 // and an answer are written, and which routine has which number.
 #![tactic(auto)]
 
-use libc::STDOUT_FILENO;
 use routines::{export_calls, label_calls, record_calls, table_calls, text_calls, token_calls};
+use std::io;
 use wire::answer::Answer;
 use wire::front;
 use wire::input::{Lent, Numbers, bools_in, bytes_in, numbers_in, word_in, words_in};
@@ -24,43 +24,45 @@ const MOST_LABELS: usize = 300;
 const ROUTINES: u64 = 30;
 
 // The turns are counted down from a number that no run uses up, since a proved loop has to end.
-fn main() {
+fn main(rt: HostRuntime) -> io::Result<()> {
     let mut turns = u64::MAX;
     while turns > 0 {
-        let routine = word_in();
+        let routine = word_in(&mut rt.stdin())?;
         if routine.ended {
-            return;
+            return Ok(());
         }
-        let numbers = numbers_in();
+        let numbers = numbers_in(&mut rt.stdin())?;
         let good = routine.good & (routine.value < ROUTINES) & numbers.good;
-        if !lend(routine.value, numbers, good) {
-            io::write_all(STDOUT_FILENO, b"bad call\n");
-            return;
+        if !lend(&rt, routine.value, numbers, good)? {
+            return println!(rt; "bad call");
         }
         turns -= 1;
     }
+    Ok(())
 }
 
 // Reads what a call lends, and makes it, unless something in it has not the form. Answers whether it was made.
-fn lend(routine: u64, numbers: Numbers, good: bool) -> bool {
+fn lend(rt: &HostRuntime, routine: u64, numbers: Numbers, good: bool) -> io::Result<bool> {
+    let mut input = rt.stdin();
     let mut text = [0u8; MOST_TEXT];
-    let t = bytes_in(&mut text);
+    let t = bytes_in(&mut input, &mut text)?;
     let mut items = [0u8; MOST_ITEMS];
-    let i = bytes_in(&mut items);
+    let i = bytes_in(&mut input, &mut items)?;
     let mut out = [0u8; MOST_OUT];
-    let o = bytes_in(&mut out);
+    let o = bytes_in(&mut input, &mut out)?;
     let mut rules = [0u64; MOST_RULES];
-    let r = words_in(&mut rules);
+    let r = words_in(&mut input, &mut rules)?;
     let mut levels = [0u64; MOST_LABELS];
-    let l = words_in(&mut levels);
+    let l = words_in(&mut input, &mut levels)?;
     let mut marks = [0u64; MOST_LABELS];
-    let m = words_in(&mut marks);
+    let m = words_in(&mut input, &mut marks)?;
     let mut kept = [false; MOST_LABELS];
-    let k = bools_in(&mut kept);
+    let k = bools_in(&mut input, &mut kept)?;
     if !all_good(good, t, i, o, r, l, m, k) {
-        return false;
+        return Ok(false);
     }
     call(
+        rt,
         routine,
         numbers,
         front::bytes(&mut text, t.room),
@@ -70,8 +72,8 @@ fn lend(routine: u64, numbers: Numbers, good: bool) -> bool {
         front::words(&mut levels, l.room),
         front::words(&mut marks, m.room),
         front::bools(&mut kept, k.room),
-    );
-    true
+    )?;
+    Ok(true)
 }
 
 // Whether all of a call has the form.
@@ -81,6 +83,7 @@ fn all_good(good: bool, t: Lent, i: Lent, o: Lent, r: Lent, l: Lent, m: Lent, k:
 
 // Makes a call, and prints its answer and the buffers after it.
 fn call(
+    rt: &HostRuntime,
     routine: u64,
     numbers: Numbers,
     text: &mut [u8],
@@ -90,17 +93,18 @@ fn call(
     levels: &mut [u64],
     marks: &mut [u64],
     kept: &mut [bool],
-) {
-    answer_out(made(
+) -> io::Result<()> {
+    let answer = made(
         routine, numbers, text, items, out, rules, levels, marks, kept,
-    ));
-    bytes_out(text);
-    bytes_out(items);
-    bytes_out(out);
-    words_out(rules);
-    words_out(levels);
-    words_out(marks);
-    bools_out(kept);
+    );
+    answer_out(rt, answer)?;
+    bytes_out(rt, text)?;
+    bytes_out(rt, items)?;
+    bytes_out(rt, out)?;
+    words_out(rt, rules)?;
+    words_out(rt, levels)?;
+    words_out(rt, marks)?;
+    bools_out(rt, kept)
 }
 
 // What a call answers.

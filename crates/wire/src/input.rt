@@ -1,9 +1,11 @@
 // What a call is made of, read from standard input: words, each a line of sixteen hex digits.
-ghost use Rattle.std.specs.Prelude.{◌≤◌};
+ghost use Rattle.std.specs.Prelude.{◌≤◌, IfOk};
 
-use libc::STDIN_FILENO;
+use fills::fill;
 use puts::put;
 use scans::{LF, byte_at};
+use std::io;
+use std::io::Read;
 use tokens::{ReadClass, read_class};
 
 // The bytes of a line.
@@ -48,14 +50,14 @@ struct Sizes {
 }
 
 // The next word. Its digits are read as the marks of a class.
-pub fn word_in() -> Word {
+pub fn word_in<R: Read>(input: &mut R) -> io::Result<Word> {
     let mut line = [0u8; LINE];
-    let n = io::read_full(STDIN_FILENO, &mut line);
+    let n = fill(input, &mut line)?;
     let ended = n == 0;
     let mut class = [0u8; LEVEL + LINE];
     put(b"0/", &mut class, 0);
     put(&line[..n], &mut class, LEVEL);
-    match read_class(&class, 0) {
+    Ok(match read_class(&class, 0) {
         ReadClass::Found(token) => Word {
             value: token.class.marks,
             good: byte_at(&class, token.len) == LF,
@@ -66,18 +68,18 @@ pub fn word_in() -> Word {
             good: false,
             ended,
         },
-    }
+    })
 }
 
 // The numbers of a call.
-pub fn numbers_in() -> Numbers {
-    let a = word_in();
-    let b = word_in();
-    let c = word_in();
-    let d = word_in();
-    let e = word_in();
-    let f = word_in();
-    Numbers {
+pub fn numbers_in<R: Read>(input: &mut R) -> io::Result<Numbers> {
+    let a = word_in(input)?;
+    let b = word_in(input)?;
+    let c = word_in(input)?;
+    let d = word_in(input)?;
+    let e = word_in(input)?;
+    let f = word_in(input)?;
+    Ok(Numbers {
         a: a.value,
         b: b.value,
         c: c.value,
@@ -85,26 +87,26 @@ pub fn numbers_in() -> Numbers {
         e: e.value,
         f: f.value,
         good: a.good & b.good & c.good & d.good & e.good & f.good,
-    }
+    })
 }
 
 // The sizes of a buffer that has at most so many elements. None where they may not be.
-fn sizes_in(most: usize) -> Sizes
-    ensures { result.count ≤ most }
+fn sizes_in<R: Read>(input: &mut R, most: usize) -> io::Result<Sizes>
+    ensures { IfOk result (λ s. s.count ≤ most) }
 {
-    let room = word_in();
-    let count = word_in();
+    let room = word_in(input)?;
+    let count = word_in(input)?;
     if (most as u64) < room.value {
-        return no_sizes();
+        return Ok(no_sizes());
     }
     if room.value < count.value {
-        return no_sizes();
+        return Ok(no_sizes());
     }
-    Sizes {
+    Ok(Sizes {
         room: room.value as usize,
         count: count.value as usize,
         good: room.good & count.good,
-    }
+    })
 }
 
 fn no_sizes() -> Sizes
@@ -118,46 +120,46 @@ fn no_sizes() -> Sizes
 }
 
 // The bytes of a buffer.
-pub fn bytes_in(buf: &mut [u8]) -> Lent {
-    let sizes = sizes_in(buf.len());
+pub fn bytes_in<R: Read>(input: &mut R, buf: &mut [u8]) -> io::Result<Lent> {
+    let sizes = sizes_in(input, buf.len())?;
     let mut good = sizes.good;
     let mut i = 0;
     while i < sizes.count {
-        let word = word_in();
+        let word = word_in(input)?;
         buf[i] = (word.value % 256) as u8;
         good = good & word.good & (word.value < 256);
         i += 1;
     }
     let room = sizes.room;
-    Lent { room, good }
+    Ok(Lent { room, good })
 }
 
 // The words of a buffer.
-pub fn words_in(buf: &mut [u64]) -> Lent {
-    let sizes = sizes_in(buf.len());
+pub fn words_in<R: Read>(input: &mut R, buf: &mut [u64]) -> io::Result<Lent> {
+    let sizes = sizes_in(input, buf.len())?;
     let mut good = sizes.good;
     let mut i = 0;
     while i < sizes.count {
-        let word = word_in();
+        let word = word_in(input)?;
         buf[i] = word.value;
         good = good & word.good;
         i += 1;
     }
     let room = sizes.room;
-    Lent { room, good }
+    Ok(Lent { room, good })
 }
 
 // The bools of a buffer.
-pub fn bools_in(buf: &mut [bool]) -> Lent {
-    let sizes = sizes_in(buf.len());
+pub fn bools_in<R: Read>(input: &mut R, buf: &mut [bool]) -> io::Result<Lent> {
+    let sizes = sizes_in(input, buf.len())?;
     let mut good = sizes.good;
     let mut i = 0;
     while i < sizes.count {
-        let word = word_in();
+        let word = word_in(input)?;
         buf[i] = word.value != 0;
         good = good & word.good;
         i += 1;
     }
     let room = sizes.room;
-    Lent { room, good }
+    Ok(Lent { room, good })
 }
