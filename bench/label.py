@@ -1,5 +1,5 @@
 #!/usr/bin/env python3
-"""Times the labelling program against the same job in plain C: `bench/label.py [RUNS]`, from the repository's root, once `rt check label`
+"""Times the labelling program against the same job in plain C: `bench/label.py [RUNS]`, from the repository's root, once `tests/build label`
 has built the program. `bench/label.py --texts DIR` writes the texts into DIR instead.
 
 Both programs read the same texts and run in the same way, that of tests/run-program, in turn. First their outputs must be equal byte for
@@ -20,7 +20,7 @@ import subprocess
 import sys
 import tempfile
 
-PROGRAM = os.path.join("target", "bin", "label")
+PROGRAM = os.path.join("crates", "label", "out", "label")
 SOURCE = os.path.join("bench", "label.c")
 MOST_BYTES, MOST_ITEMS, MOST_RULES = 32768, 256, 1024
 EMPTY = b"form=1\nend=1\n"
@@ -263,7 +263,7 @@ def main():
         print("usage: bench/label.py [RUNS], RUNS at least 2, or bench/label.py --texts DIR", file=sys.stderr)
         return 2
     if not os.path.isfile(PROGRAM):
-        print("no program to time: run 'rt check label' first")
+        print("no program to time: run 'tests/build label' first")
         return 1
     return bench(int(words[0]) if words else 7)
 

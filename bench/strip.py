@@ -1,5 +1,5 @@
 #!/usr/bin/env python3
-"""Times the stripping program against the same job in plain C: `bench/strip.py [RUNS]`, from the repository's root, once `rt check strip` has
+"""Times the stripping program against the same job in plain C: `bench/strip.py [RUNS]`, from the repository's root, once `tests/build strip` has
 built the program.
 
 Both programs strip the same exports of 100 MB and run in the same way, that of tests/run-program, in turn. First their outputs must be equal
@@ -26,7 +26,7 @@ sys.path.insert(0, os.path.join(os.path.dirname(os.path.dirname(os.path.abspath(
 from label import laid, spent_by_children  # noqa: E402
 from program import unread  # noqa: E402
 
-PROGRAM = os.path.join("target", "bin", "strip")
+PROGRAM = os.path.join("crates", "strip", "out", "strip")
 SOURCE = os.path.join("bench", "strip.c")
 MEGABYTE = 10**6
 MEGABYTES = 100
@@ -251,7 +251,7 @@ def main():
         print("usage: bench/strip.py [RUNS]", file=sys.stderr)
         return 2
     if not os.path.isfile(PROGRAM):
-        print("no program to time: run 'rt check strip' first")
+        print("no program to time: run 'tests/build strip' first")
         return 1
     return bench(int(words[0]) if words else 5)
 

@@ -25,13 +25,13 @@ def unread(source):
 
 
 class Program:
-    """`with Program(NAME) as program`: the program target/bin/NAME, in a new folder inside the one that is given, if any. Where it is not built
+    """`with Program(NAME) as program`: the program crates/NAME/out/NAME, in a new folder inside the one that is given, if any. Where it is not built
     the run ends in '0 passed, 1 failed'."""
 
     def __init__(self, name, inside=None):
-        built = os.path.join(ROOT, "target", "bin", name)
+        built = os.path.join(ROOT, "crates", name, "out", name)
         if not os.path.isfile(built):
-            print(f"no program to run: run 'rt check {name}' first\n0 passed, 1 failed")
+            print(f"no program to run: run 'tests/build {name}' first\n0 passed, 1 failed")
             sys.exit(1)
         said = subprocess.run([os.path.join(ROOT, "tests", "run-program"), "--prefix"], check=True, stdout=subprocess.PIPE, text=True)
         self.made = tempfile.TemporaryDirectory(dir=inside)

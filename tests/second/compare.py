@@ -1,5 +1,5 @@
 #!/usr/bin/env python3
-"""Holds the labelling program to the second program: `tests/second/compare.py [COUNT] [SEED]`, once `rt check label` has built it.
+"""Holds the labelling program to the second program: `tests/second/compare.py [COUNT] [SEED]`, once `tests/build label` has built it.
 
 COUNT texts are given to both, and what they write must be equal byte for byte: first the texts of `second.py --examples`, then the large
 texts, then books and broken texts made from SEED. Where a book is too big to try every labelling, only what the reader says is held.
@@ -16,7 +16,7 @@ import books  # noqa: E402
 import second  # noqa: E402
 
 ROOT = os.path.dirname(os.path.dirname(os.path.dirname(os.path.abspath(__file__))))
-PROGRAM = os.path.join(ROOT, "target", "bin", "label")
+PROGRAM = os.path.join(ROOT, "crates", "label", "out", "label")
 MOST_SHOWN = 10
 REFUSALS = "TOO_LONG SYNTAX ORDER TOO_MANY NAME_TWICE NO_SUCH_ITEM LEFT_ORDER END_COUNT NO_LABELLING".split()
 
@@ -52,7 +52,7 @@ def main():
         return 2
     count, seed = [int(word) for word in sys.argv[1:]] + [2000, 1][len(sys.argv) - 1 :]
     if not os.path.isfile(PROGRAM):
-        print("no program to compare with: run 'rt check label' first")
+        print("no program to compare with: run 'tests/build label' first")
         print("0 passed, 1 failed")
         return 1
     prefix = subprocess.run([os.path.join(ROOT, "tests", "run-program"), "--prefix"], check=True, stdout=subprocess.PIPE, text=True)

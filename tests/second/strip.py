@@ -1,7 +1,7 @@
 #!/usr/bin/env python3
 """A second stripping program, for small books, and the comparison of the stripping program with it.
 
-strip.py [COUNT] [SEED]  gives COUNT exports, most of them made from SEED, to both, once `rt check strip` has built the program, and holds what
+strip.py [COUNT] [SEED]  gives COUNT exports, most of them made from SEED, to both, once `tests/build strip` has built the program, and holds what
                          they write on standard output and on standard error to be equal byte for byte. The program reads each export through a
                          pipe, in pieces cut at random places, each piece by itself; every second pipe stays open until all whole records
                          are written

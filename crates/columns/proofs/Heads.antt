@@ -4,11 +4,9 @@
 use mathlib.Core.Path.{◌≡◌, refl, sym, ◌∙◌, subst}
 use mathlib.Core.Bool.{Bool, true, false}
 use mathlib.Core.List.{List, [], ◌∷◌, ◌++◌}
-use mathlib.Core.Logic.{inl, inr}
 use Prim.Native.Nat.{ℕ, ◌≤◌, ◌<◌}
 use native.Mathlib.Omega.{arith}
 use lib.ListN.{length, take, drop}
-use denote.Enum as enum
 use Rattle.classes.specs.declared.Class.{Class}
 use Rattle.refusals.specs.declared.Fault.{Fault}
 use Rattle.records.specs.Rows.{whole, more, bad, record_at, most_fields, RowSays}
@@ -20,7 +18,6 @@ use Rattle.columns.specs.Columns.{said_kept, said_columns, header_at, HeaderSays
 use Rattle.columns.specs.Inner.{refused_for, NumberRoom, HeaderReady, FindsItems, Headed, HeadSays, no_header, part_header, no_names, good_header}
 use Rattle.columns.specs.Inner.{Covering, KeepSays, roomless, covers}
 use Rattle.columns.specs.declared.Columns.{Columns}
-use Rattle.columns.specs.contracts.Columns as columns
 use Rattle.columns.proofs.Covered.{covered_front, covered_rest}
 
 -- No bytes.

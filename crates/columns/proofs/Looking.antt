@@ -1,22 +1,19 @@
 -- What the loop over a header's names keeps from turn to turn: the names passed are items, and no item stands twice. It rests on the laws of
 -- fields by their ends and of names that are found.
 -- Assumes nothing.
-use mathlib.Core.Path.{◌≡◌, refl, sym, ap, subst, ◌∙◌}
+use mathlib.Core.Path.{◌≡◌, refl, sym, ap, ◌∙◌}
 use mathlib.Core.Bool.{Bool, true, false}
-use mathlib.Core.List.{List, [], ◌∷◌}
-use mathlib.Core.Logic.{inl, inr}
+use mathlib.Core.List.{List}
 use Prim.Native.Nat.{ℕ, ◌+◌, ◌-◌, ◌≤◌, ◌<◌}
 use native.Mathlib.Decide.{dec_le}
 use native.Mathlib.Omega.{arith}
 use lib.ListN.{length, get_or, take, drop, set, length-set}
 use lib.Seq.{get_or-set_same, get_or-set_other}
-use denote.Enum as enum
 use Rattle.laws.specs.Tells.{Tells}
 use Rattle.laws.proofs.Bools.{true_not_false}
 use Rattle.laws.proofs.Tells.{tells_no, tells_yes}
 use Rattle.items.specs.Lookup.{find_in}
 use Rattle.items.specs.declared.Found.{Found}
-use Rattle.items.specs.contracts.Found as found
 use Rattle.items.proofs.Entries.{found_bytes}
 use Rattle.records.specs.Fields.{field_at, field_len}
 use Rattle.records.specs.Rows.{start_at, nth_field}

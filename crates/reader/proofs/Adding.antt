@@ -3,19 +3,16 @@
 -- Assumes nothing.
 use mathlib.Core.Path.{◌≡◌, refl, sym, ◌∙◌}
 use mathlib.Core.Bool.{Bool, true, false, not}
-use mathlib.Core.List.{List, [], ◌∷◌}
-use mathlib.Core.Logic.{inl, inr}
+use mathlib.Core.List.{List}
 use Prim.Native.Nat.{ℕ, ◌*◌, ◌≤◌, ◌<◌}
 use native.Mathlib.Omega.{arith}
 use lib.ListN.{drop, replicate}
-use denote.Enum as enum
 use borrow.Author.Tests.{lt-ltb, le-ltb, le-leb, lt-leb, not-true, not-false}
 use Rattle.refusals.specs.Sizes.{most_items, most_rules, most_left}
 use Rattle.refusals.specs.declared.Fault.{Fault}
 use Rattle.items.specs.Names.{name_room}
 use Rattle.items.specs.Lookup.{said_found, find_in, FindSays}
 use Rattle.items.specs.declared.Found.{Found}
-use Rattle.items.specs.contracts.Found as found
 use Rattle.items.proofs.Lookup.{find_told}
 use Rattle.rules.specs.Table.{RulePut}
 use Rattle.rules.proofs.Put.{put_told}

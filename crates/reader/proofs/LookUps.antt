@@ -4,7 +4,6 @@
 use mathlib.Core.Path.{◌≡◌, refl, sym, ap, ◌∙◌}
 use mathlib.Core.Bool.{Bool, true, false, ◌&&◌}
 use mathlib.Core.List.{List, [], ◌∷◌}
-use mathlib.Core.Logic.{inl, inr}
 use Prim.Native.Nat.{ℕ, suc, ◌+◌, ◌-◌, ◌≤◌, ◌<◌, min}
 use native.Mathlib.Decide.{dec_le}
 use native.Mathlib.Omega.{arith}
@@ -13,7 +12,6 @@ use lib.ListN.{length, get_or, set, take, drop, drop_of_length-le, length-drop, 
 use lib.Seq.{take_all, drop-drop}
 use mir.Syntax.{w64}
 use mir.Val.{Fits}
-use denote.Enum as enum
 use borrow.Author.Tests.{eq-eqb, ne_eqb, lt-ltb, ltb-true}
 use Rattle.laws.specs.Every.{every_below}
 use Rattle.laws.proofs.Bools.{true_not_false}
@@ -25,7 +23,6 @@ use Rattle.scans.specs.Bytes.{name_byte, run_len}
 use Rattle.scans.proofs.Runs.{run_le}
 use Rattle.items.specs.Lookup.{said_found, find_in, FindSays}
 use Rattle.items.specs.declared.Found.{Found}
-use Rattle.items.specs.contracts.Found as found
 use Rattle.items.proofs.Lookup.{find_told}
 use Rattle.reader.specs.Names.{is_item, item_number, every_item, numbers_of, rising}
 use Rattle.reader.specs.Lines.{right_item_at}

@@ -1,10 +1,9 @@
 -- What the loop over a record's fields keeps from turn to turn: so many fields are read, up to a place, and their ends are stored. It rests on the laws of a
 -- record read field by field and of a text over a part of a buffer.
 -- Assumes nothing.
-use mathlib.Core.Path.{◌≡◌, refl, sym, ap, subst, ◌∙◌}
+use mathlib.Core.Path.{◌≡◌, refl, sym, ap, ◌∙◌}
 use mathlib.Core.Bool.{Bool}
 use mathlib.Core.List.{List, [], ◌∷◌, ◌++◌, append_assoc, append-nil}
-use mathlib.Core.Logic.{inl, inr}
 use Prim.Native.Nat.{ℕ, zero, suc, ◌+◌, ◌-◌, ◌^◌, ◌≤◌, ◌<◌, min}
 use native.Mathlib.Nat.{zero-add, add-zero}
 use native.Mathlib.Omega.{arith}
@@ -12,7 +11,6 @@ use lib.ListN.{length, take, drop, set, length-drop, length-append, length-set}
 use lib.Seq.{drop-drop}
 use mir.Syntax.{w64}
 use mir.Val.{Fits}
-use denote.Enum as enum
 use Rattle.laws.specs.Over.{over}
 use Rattle.laws.proofs.Over.{over_none, set_over, over_length, over_over}
 use Rattle.records.specs.Fields.{field_at, field_len}
@@ -20,7 +18,6 @@ use Rattle.records.specs.Rows.{record_at, size_of, ends_behind, ends_of, RowSays
 use Rattle.records.specs.Inner.{ended_by}
 use Rattle.records.specs.declared.Field.{Field}
 use Rattle.records.specs.declared.Size.{Size}
-use Rattle.records.specs.contracts.Field as field
 use Rattle.records.proofs.Within.{comma_within, len_within}
 use Rattle.records.proofs.Come.{Come, come_start, come_on, come_ended, come_too_many}
 

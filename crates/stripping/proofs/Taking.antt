@@ -4,7 +4,6 @@
 use mathlib.Core.Path.{◌≡◌, refl, sym, ap, subst, ◌∙◌}
 use mathlib.Core.Bool.{Bool, true, false, ◌&&◌}
 use mathlib.Core.List.{List, [], ◌∷◌, ◌++◌}
-use mathlib.Core.Logic.{inl, inr}
 use Prim.Native.Nat.{ℕ, ◌+◌, ◌-◌, ◌^◌, ◌≤◌, ◌<◌, zero-le}
 use native.Mathlib.Nat.{zero-add}
 use native.Mathlib.Omega.{arith}
@@ -12,13 +11,11 @@ use lib.Dec.{eqb}
 use lib.ListN.{length, length-append}
 use mir.Syntax.{w64}
 use mir.Val.{Fits}
-use denote.Enum as enum
 use borrow.Author.Tests.{eq-eqb, ne_eqb}
 use Rattle.records.specs.Rows.{most_fields, RowSays, start_at}
 use Rattle.records.specs.declared.Extent.{Extent}
 use Rattle.records.specs.Inner.{FieldSpans, fields_to}
 use Rattle.records.specs.declared.Size.{Size}
-use Rattle.records.specs.contracts.Size as size
 use Rattle.records.proofs.Parts.{row_length}
 use Rattle.exports.specs.Rows.{Taken, taken}
 use Rattle.exports.specs.Text.{record_lines, record_line}

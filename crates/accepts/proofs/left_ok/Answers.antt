@@ -1,5 +1,4 @@
 -- `left_ok` meets its contract. Assumes nothing.
-use Prim.Native.Nat.{◌-◌}
 use native.Mathlib.Omega.{arith}
 use Rattle.laws.proofs.First.{all_none, all_told}
 use Rattle.accepts.proofs.Accepts.{left_none, left_many, left_bad, left_good}

@@ -1,5 +1,4 @@
 -- `rules_ok` meets its contract. Assumes nothing.
-use Prim.Native.Nat.{◌-◌}
 use native.Mathlib.Omega.{arith}
 use Rattle.laws.proofs.First.{all_none, all_told}
 use Rattle.accepts.proofs.Accepts.{table_items, table_rules, table_short, table_bad, table_good}

@@ -3,7 +3,6 @@ use Prim.Native.Nat.{◌≤◌, ◌-◌}
 use Rattle.laws.specs.First.{AllBelow}
 use Rattle.rules.specs.Table.{rule_at}
 use Rattle.accepts.specs.Accepted.{Standing}
-use borrow.Author.Rules.{rules}
 use Rattle.accepts.proofs.rules_ok.Given as goal
 
 abbrev pub invariant-loop-r : goal.invariant-loop-r

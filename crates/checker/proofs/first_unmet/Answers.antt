@@ -1,6 +1,5 @@
 -- `checker::first_unmet` meets its contract. The loop's invariant: every rule passed is met.
 -- Assumes nothing.
-use Prim.Native.Nat.{◌-◌}
 use native.Mathlib.Omega.{arith}
 use Rattle.laws.proofs.First.{all_none, sought_nowhere}
 use Rattle.checker.proofs.Meets.{all_met_more, unmet_here}

@@ -4,7 +4,6 @@ use Prim.Native.Nat.{◌≤◌, ◌-◌}
 use Rattle.rules.specs.Table.{rule_at}
 use Rattle.laws.specs.First.{AllBelow}
 use Rattle.checker.specs.Checking.{RuleMet}
-use borrow.Author.Rules.{rules}
 use Rattle.checker.proofs.first_unmet.Given as goal
 
 abbrev pub invariant-loop-r : goal.invariant-loop-r

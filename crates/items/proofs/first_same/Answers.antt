@@ -1,8 +1,6 @@
 -- `first_same` meets its contract. The loop's invariant: no entry passed is the name. The measure is what is left of the entries.
 -- Assumes nothing.
 use mathlib.Core.Path.{sym, ◌∙◌}
-use mathlib.Core.Bool.{false}
-use Prim.Native.Nat.{◌-◌}
 use native.Mathlib.Omega.{arith}
 use borrow.Author.Count.{below_none, below_more}
 use Rattle.laws.proofs.Search.{first_is}

@@ -1,6 +1,5 @@
 -- `is_new` meets its contract. The loop's invariant: no entry passed is the same. The measure is what is left of the entries before this one.
 -- Assumes nothing.
-use Prim.Native.Nat.{◌-◌}
 use native.Mathlib.Omega.{arith}
 use borrow.Author.Count.{below_none, below_more}
 use Rattle.laws.proofs.Tells.{tells_no, tells_yes}

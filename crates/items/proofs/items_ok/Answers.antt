@@ -1,6 +1,5 @@
 -- `items_ok` meets its contract. The loop's invariant: each entry passed is a name with zeros behind it and the same as none before it. The
 -- measure is what is left of the entries. Assumes nothing.
-use Prim.Native.Nat.{◌-◌}
 use native.Mathlib.Omega.{arith}
 use borrow.Author.Count.{below_none, below_more}
 use borrow.Author.Tests.{not-true, not-false}

@@ -1,6 +1,5 @@
 -- `name_len` meets its contract. The loop's invariant: no byte passed is zero. The measure is what is left of 16. Assumes nothing.
 use mathlib.Core.Path.{sym, ◌∙◌}
-use Prim.Native.Nat.{◌-◌}
 use native.Mathlib.Omega.{arith}
 use borrow.Author.Count.{below_none, below_more}
 use Rattle.items.proofs.Table.{name_len_is}

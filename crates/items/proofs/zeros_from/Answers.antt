@@ -1,6 +1,5 @@
 -- `zeros_from` meets its contract. The loop's invariant: the bytes passed are zero. The measure is what is left of 16. Assumes nothing.
 use mathlib.Core.Path.{sym, ◌∙◌}
-use Prim.Native.Nat.{◌-◌}
 use native.Mathlib.Omega.{arith}
 use borrow.Author.Count.{below_more}
 use Rattle.laws.proofs.Tells.{tells_no, tells_yes}

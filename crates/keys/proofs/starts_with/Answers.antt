@@ -1,5 +1,4 @@
 -- `starts_with` meets its contract. The loop's invariant: i bytes are compared. The measure is what is left of them. Assumes nothing.
-use Prim.Native.Nat.{◌-◌}
 use native.Mathlib.Omega.{arith}
 use borrow.Author.Rules.{rules}
 use lib.ListN.{length-drop}

@@ -1,6 +1,5 @@
 -- `first_bad` meets its contract. The loop's invariant: every level passed is in range. The measure is what is left of the levels.
 -- Assumes nothing.
-use Prim.Native.Nat.{◌-◌}
 use native.Mathlib.Omega.{arith}
 use borrow.Author.Rules.{rules}
 use Rattle.laws.proofs.First.{all_none, all_more, sought_here, sought_nowhere}

@@ -1,5 +1,4 @@
 -- `put` meets its contract. The loop's invariant: there is room, and i bytes are copied. The measure is what is left of them. Assumes nothing.
-use Prim.Native.Nat.{◌-◌}
 use borrow.Author.Rules.{rules}
 use Rattle.puts.proofs.Placed.{put_nowhere}
 use Rattle.laws.proofs.Copying.{copied_none, copied_more}

@@ -1,7 +1,5 @@
 -- `put_class` meets its contract. Assumes nothing.
-use mathlib.Core.Path.{◌∙◌}
 use native.Mathlib.Omega.{arith}
-use lib.ListN.{length-set}
 use borrow.Author.Rules.{rules}
 use Rattle.tokens.proofs.Values.{decimal_most}
 use Rattle.puts.proofs.Puts.{class_nowhere, level_room, slash_in, slash_fits, marks_room, class_there}

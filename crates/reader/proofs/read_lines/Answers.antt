@@ -1,5 +1,4 @@
 -- `read_lines` meets its contract. Assumes nothing.
-use Prim.Native.Nat.{◌-◌}
 use borrow.Author.Rules.{rules}
 use Rattle.reader.proofs.Whole.{reading_none, reading_stop, reading_fits, reading_less, reading_on}
 use Rattle.reader.proofs.read_lines.Goals as goal

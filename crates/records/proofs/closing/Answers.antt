@@ -1,5 +1,4 @@
 -- `closing` meets its contract. The loop's invariant: i is a place between quotes. The measure is what is left of the text. Assumes nothing.
-use Prim.Native.Nat.{◌-◌}
 use borrow.Author.Rules.{rules}
 use Rattle.records.proofs.Past.{past_none, past_run, past_never, past_doubled, past_closing}
 use Rattle.records.proofs.closing.Goals as goal

@@ -1,6 +1,5 @@
 -- `plain_run` meets its contract. The loop's invariant: up to i every byte is plain. The measure is what is left of the text. Assumes nothing.
 use mathlib.Core.Path.{sym, ◌∙◌}
-use Prim.Native.Nat.{◌-◌}
 use native.Mathlib.Omega.{arith}
 use borrow.Author.Rules.{rules}
 use borrow.Author.Tests.{not-true, not-false}

@@ -1,5 +1,4 @@
 -- `quoted_run` meets its contract. The loop's invariant: up to i no byte is a quote. The measure is what is left of the text. Assumes nothing.
-use Prim.Native.Nat.{◌-◌}
 use borrow.Author.Rules.{rules}
 use Rattle.records.proofs.Past.{past_none, past_quoted_on, past_quoted_stop, past_quoted_end}
 use Rattle.records.proofs.quoted_run.Goals as goal

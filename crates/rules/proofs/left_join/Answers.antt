@@ -1,5 +1,4 @@
 -- `left_join` meets its contract. Assumes nothing.
-use Prim.Native.Nat.{◌-◌}
 use native.Mathlib.Omega.{arith}
 use Rattle.rules.proofs.Laws.{join_none, join_more, join_all}
 use borrow.Author.Rules.{rules}

@@ -1,5 +1,4 @@
 -- `put_words` meets its contract. The loop's invariant: there is room, and i words are copied. Assumes nothing.
-use Prim.Native.Nat.{◌-◌}
 use native.Mathlib.Omega.{arith}
 use Rattle.laws.proofs.Copying.{copied_none, copied_more}
 use Rattle.rules.proofs.Put.{words_copied, place_past, words_past}

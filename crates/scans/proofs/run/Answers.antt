@@ -1,6 +1,5 @@
 -- `run` meets its contract. The loop's invariant: n bytes are counted. The measure is what is left of the text. Assumes nothing.
 use mathlib.Core.Path.{sym, ◌∙◌}
-use Prim.Native.Nat.{◌-◌}
 use native.Mathlib.Omega.{arith}
 use borrow.Author.Tests.{not-true, not-false}
 use Rattle.scans.proofs.Counted.{counted_none, counted_more, counted_stop, counted_end}

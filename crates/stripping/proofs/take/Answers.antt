@@ -1,5 +1,4 @@
 -- `take` meets its contract. Assumes nothing.
-use Prim.Native.Nat.{◌-◌}
 use borrow.Author.Rules.{rules}
 use Rattle.stripping.proofs.Taking.{take_none, take_stopped, put_ready, place_fits, count_fits, take_less, take_on, take_end}
 use Rattle.stripping.proofs.take.Goals as goal

@@ -1,6 +1,6 @@
 -- `check_list` meets its contract: before the first rule nothing is known, each rule goes on from what is known before it, and behind the last one all is
 -- known that checking says. Assumes nothing.
-use mathlib.Core.Path.{refl, subst, sym}
+use mathlib.Core.Path.{refl, subst}
 use Prim.Native.Nat.{zero-le}
 use native.Mathlib.Nat.{le_antisymm}
 use native.Mathlib.Numerals.{add-one}

@@ -1,6 +1,5 @@
 -- `cover` meets its contract. The loop's invariant: it is said of c columns whether they are covered. The measure is how many are left.
 -- Assumes nothing.
-use Prim.Native.Nat.{◌-◌}
 use native.Mathlib.Omega.{arith}
 use Rattle.columns.proofs.Covered.{cover_none, cover_more, cover_all}
 use Rattle.columns.proofs.header.cover.Goals as goal

@@ -1,5 +1,4 @@
 -- `find_items` meets its contract. The loop's invariant: the names before are items, and none is repeated. The measure is how many are left. Assumes nothing.
-use Prim.Native.Nat.{◌-◌}
 use borrow.Author.Rules.{rules}
 use Rattle.columns.proofs.Looking.{look_none, look_field, look_absent, look_held, look_repeated, look_room, look_more, look_all}
 use Rattle.columns.proofs.header.find_items.Goals as goal

@@ -1,5 +1,4 @@
 -- `holds` meets its contract. The loop's invariant: no number passed is the one. The measure is what is left of the c. Assumes nothing.
-use Prim.Native.Nat.{◌-◌}
 use native.Mathlib.Omega.{arith}
 use borrow.Author.Count.{below_none, below_more}
 use Rattle.laws.proofs.Tells.{tells_no, tells_yes}

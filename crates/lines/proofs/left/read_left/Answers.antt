@@ -1,5 +1,4 @@
 -- `read_left` meets its contract. Assumes nothing.
-use Prim.Native.Nat.{◌-◌}
 use borrow.Author.Rules.{rules}
 use Rattle.lines.proofs.Passed.{passed_none, passed_bad, passed_fits, passed_count, passed_order, passed_last, passed_next, passed_less, passed_more}
 use Rattle.lines.proofs.left.read_left.Goals as goal

@@ -1,5 +1,4 @@
 -- `look_up` meets its contract. Assumes nothing.
-use Prim.Native.Nat.{◌-◌}
 use Rattle.reader.proofs.LookUps.{looking_none, looking_room, looking_fits, looking_next, looking_absent, looking_more, looking_all}
 use borrow.Author.Rules.{rules}
 use Rattle.reader.proofs.names.look_up.Goals as goal

@@ -1,5 +1,4 @@
 -- `rises` meets its contract. Assumes nothing.
-use Prim.Native.Nat.{◌-◌}
 use Rattle.reader.proofs.LookUps.{rising_one, rising_more, rising_not, rising_all}
 use borrow.Author.Rules.{rules}
 use Rattle.reader.proofs.names.rises.Goals as goal

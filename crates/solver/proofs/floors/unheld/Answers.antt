@@ -1,5 +1,4 @@
 -- `floors::unheld` meets its contract. Assumes nothing.
-use Prim.Native.Nat.{◌-◌}
 use native.Mathlib.Omega.{arith}
 use Rattle.solver.proofs.Lacking.{lacks_none, lacks_more, lacks_all}
 use borrow.Author.Rules.{rules}

@@ -2,7 +2,6 @@
 use Prim.Native.Nat.{◌≤◌, ◌-◌}
 use Rattle.solver.specs.Solving.{held}
 use Rattle.solver.proofs.Lacking.{LacksBefore}
-use borrow.Author.Rules.{rules}
 use Rattle.solver.proofs.floors.unheld.Given as goal
 
 abbrev pub invariant-loop-r : goal.invariant-loop-r

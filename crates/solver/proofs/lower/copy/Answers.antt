@@ -1,5 +1,4 @@
 -- `lower::copy` meets its contract. Assumes nothing.
-use Prim.Native.Nat.{◌-◌}
 use native.Mathlib.Omega.{arith}
 use Rattle.solver.proofs.Copying.{copied_none, copied_more, copied_all}
 use Rattle.solver.proofs.lower.copy.Goals as goal

@@ -1,5 +1,4 @@
 -- `lower::lower_all` meets its contract. Assumes nothing.
-use Prim.Native.Nat.{◌-◌}
 use Rattle.solver.proofs.Lowering.{lowered_none, lowered_more, lowered_all, next_item}
 use borrow.Author.Rules.{rules}
 use Rattle.solver.proofs.lower.lower_all.Goals as goal

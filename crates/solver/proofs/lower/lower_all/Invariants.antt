@@ -2,7 +2,6 @@
 use Prim.Native.Nat.{◌-◌}
 use Rattle.solver.specs.Solving.{held}
 use Rattle.solver.proofs.Lowering.{LoweredSoFar}
-use borrow.Author.Rules.{rules}
 use Rattle.solver.proofs.lower.lower_all.Given as goal
 
 abbrev pub invariant-loop-item : goal.invariant-loop-item

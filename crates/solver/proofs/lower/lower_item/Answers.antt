@@ -1,5 +1,4 @@
 -- `lower::lower_item` meets its contract. Assumes nothing.
-use Prim.Native.Nat.{◌-◌}
 use Rattle.solver.proofs.Lowering.{level_start, level_more, level_found, level_past, item_kept}
 use borrow.Author.Rules.{rules}
 use Rattle.solver.proofs.lower.lower_item.Goals as goal

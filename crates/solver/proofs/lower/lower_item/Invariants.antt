@@ -3,7 +3,6 @@ use Prim.Native.Nat.{suc, ◌-◌}
 use Rattle.classes.specs.Class.{top_level}
 use Rattle.solver.specs.Solving.{held}
 use Rattle.solver.proofs.Lowering.{LevelSoFar}
-use borrow.Author.Rules.{rules}
 use Rattle.solver.proofs.lower.lower_item.Given as goal
 
 abbrev pub invariant-loop-v : goal.invariant-loop-v

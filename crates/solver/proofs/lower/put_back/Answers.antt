@@ -1,5 +1,4 @@
 -- `lower::put_back` meets its contract. Assumes nothing.
-use Prim.Native.Nat.{◌-◌}
 use native.Mathlib.Omega.{arith}
 use Rattle.solver.proofs.Copying.{chosen_none, chosen_more, chosen_all}
 use borrow.Author.Rules.{rules}

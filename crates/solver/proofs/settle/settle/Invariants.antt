@@ -2,7 +2,6 @@
 use Rattle.solver.specs.Solving.{held}
 use Rattle.solver.specs.InnerSteps.{sum_of}
 use Rattle.solver.proofs.Sweep.{Settling}
-use borrow.Author.Rules.{rules}
 use Rattle.solver.proofs.settle.settle.Given as goal
 
 abbrev pub invariant-loop-back : goal.invariant-loop-back

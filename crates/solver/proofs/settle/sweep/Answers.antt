@@ -1,5 +1,4 @@
 -- `settle::sweep` meets its contract. Assumes nothing.
-use Prim.Native.Nat.{◌-◌}
 use native.Mathlib.Omega.{arith}
 use Rattle.solver.proofs.Sweep.{swept_none, swept_more, swept_all, turn_named}
 use borrow.Author.Rules.{rules}

@@ -2,7 +2,6 @@
 use Prim.Native.Nat.{◌≤◌, ◌-◌}
 use Rattle.solver.specs.Solving.{held}
 use Rattle.solver.proofs.Sweep.{Swept}
-use borrow.Author.Rules.{rules}
 use Rattle.solver.proofs.settle.sweep.Given as goal
 
 abbrev pub invariant-loop-k : goal.invariant-loop-k

@@ -1,5 +1,4 @@
 -- `put_row` meets its contract. Assumes nothing.
-use Prim.Native.Nat.{◌-◌}
 use borrow.Author.Rules.{rules}
 use Rattle.stripping.proofs.Putting.{put_starts, keep_ready, put_on, line_ready, put_ends}
 use Rattle.stripping.proofs.row.put_row.Goals as goal

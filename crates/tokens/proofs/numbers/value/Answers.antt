@@ -1,5 +1,4 @@
 -- `value` meets its contract. The loop's invariant: i digits are valued. The measure is what is left of them. Assumes nothing.
-use Prim.Native.Nat.{◌-◌}
 use borrow.Author.Rules.{rules}
 use Rattle.tokens.proofs.Valued.{valued_none, valued_in, valued_at, valued_mul, valued_add, valued_more, valued_end}
 use Rattle.tokens.proofs.numbers.value.Goals as goal

@@ -1,6 +1,5 @@
 -- `item_lines` meets its contract. The loop's invariant: behind the form line i item lines are put. The measure is what is left of the items.
 -- Assumes nothing.
-use Prim.Native.Nat.{◌-◌}
 use borrow.Author.Rules.{rules}
 use Rattle.writer.proofs.Pieces.{by_none, by_more}
 use Rattle.writer.proofs.Lines.{item_named, items_all}

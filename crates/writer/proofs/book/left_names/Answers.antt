@@ -1,6 +1,5 @@
 -- `left_names` meets its contract. The loop's invariant: behind the key k left names are put. The measure is what is left of the names.
 -- Assumes nothing.
-use Prim.Native.Nat.{◌-◌}
 use borrow.Author.Rules.{rules}
 use Rattle.writer.proofs.Pieces.{by_none, by_more}
 use Rattle.writer.proofs.Lines.{named_at, left_all}

@@ -1,7 +1,6 @@
 -- `rule_lines` meets its contract. The loop's invariant: behind the items' lines r rule lines are put. The measure is what is left of the rules.
 -- Assumes nothing.
 use Prim.Native.Nat.{◌-◌}
-use borrow.Author.Rules.{rules}
 use Rattle.rules.specs.Table.{rule_at}
 use Rattle.writer.specs.Texts.{rule_line}
 use Rattle.writer.proofs.Pieces.{GrownBy}

@@ -1,6 +1,5 @@
 -- `label_lines` meets its contract. The loop's invariant: behind the form line i label lines are put. The measure is what is left of the items.
 -- Assumes nothing.
-use Prim.Native.Nat.{◌-◌}
 use borrow.Author.Rules.{rules}
 use Rattle.writer.proofs.Pieces.{by_none, by_more}
 use Rattle.writer.proofs.Lines.{item_named, labels_all}
