@@ -17,12 +17,8 @@ pub(crate) fn read_on(rt: &HostRuntime, buf: &mut [u8], have: usize) -> io::Resu
     requires { have < length buf.old }
     ensures { IfOk result (λ i. i.have ≤ length buf.new) }
 {
-    match rt.stdin().read(&mut buf[have..]) {
-        Ok(n) => Ok(Input {
-            have: have + n,
-            last: n == 0,
-            failed: false,
-        }),
+    match read_once(&mut rt.stdin(), buf, have) {
+        Ok(input) => Ok(input),
         Err(error) => {
             eprintln!(rt; "standard input: {error}")?;
             Ok(Input {
@@ -43,4 +39,18 @@ pub(crate) fn nothing() -> Input
         last: false,
         failed: false,
     }
+}
+
+// One read behind the bytes that are held. Where it gives none, the input has ended.
+fn read_once<R: Read>(input: &mut R, buf: &mut [u8], have: usize) -> io::Result<Input>
+    requires { have < length buf.old }
+    ensures have_le_have { IfOk result (λ i. have ≤ i.have) }
+    ensures have_in_bounds { IfOk result (λ i. i.have ≤ length buf.new) }
+{
+    let n = input.read(&mut buf[have..])?;
+    Ok(Input {
+        have: have + n,
+        last: n == 0,
+        failed: false,
+    })
 }
