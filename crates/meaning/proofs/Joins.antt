@@ -19,7 +19,7 @@ module _ (K : Values) (L : Lattice K) where
   pub join_over_grows : {n : ℕ} {l : Left} {f g : ℕ → K.Val} → LeftInside n l → ((i : ℕ) → i < n → K.Below (f i) (g i)) → K.Below (join_over K l f) (join_over K l g)
   join_over_grows {n} {l} {f} {g} inside h = joins_grow l.count (λ k. f (l.item k)) (λ k. g (l.item k)) (λ k small. h (l.item k) (inside.within k small))
 
-joins_same : (K : Values) (n : ℕ) (f g : ℕ → K.Val) → ((k : ℕ) → k < n → f k ≡ g k) → join_up_to K n f ≡ join_up_to K n g
+pub joins_same : (K : Values) (n : ℕ) (f g : ℕ → K.Val) → ((k : ℕ) → k < n → f k ≡ g k) → join_up_to K n f ≡ join_up_to K n g
 joins_same K zero f g h = refl
 joins_same K (suc n) f g h = ap₂ K.join (joins_same K n f g (λ k l. h k (omega arith))) (h n (omega arith))
 

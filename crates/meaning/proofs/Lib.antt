@@ -7,6 +7,7 @@ pub mod Same
 pub mod Settle
 pub mod Ordered
 pub mod Lowering
+pub mod Pruned
 pub mod PartLaws
 pub mod Whole
 pub mod Trial

@@ -1,7 +1,7 @@
 -- Lowering, in one part: from the greatest labelling, each item in turn to the least value that still leaves a labelling. The end is least at the
 -- first difference. Nothing is asked of the part but its top.
 -- Assumes nothing.
-use mathlib.Core.Path.{◌≡◌, refl, ◌∙◌}
+use mathlib.Core.Path.{◌≡◌, refl, sym, ◌∙◌}
 use mathlib.Core.Bool.{Bool, true, false}
 use mathlib.Core.Logic.{◌⊎◌, inl, inr, ite, if_pos, if_neg}
 use Prim.Native.Nat.{ℕ, zero, suc, ◌≤◌, ◌<◌, min}
@@ -45,6 +45,13 @@ numbers_lattice top = record {
 pub numbers_ordered : (top : ℕ) → Ordered (numbers top)
 numbers_ordered top = record { discrete = ℕ_discrete; antisymmetric = λ x y ix iy p q. omega arith }
 
+not_less : (v w : ℕ) → (w < v → ⊥) → v ≤ w
+not_less v w never = pick (dec_le v w)
+  where
+    pick : Dec (v ≤ w) → v ≤ w
+    pick (yes l) = l
+    pick (no l) = absurd (never (omega arith))
+
 -- Labels below f that have at most v at item i are below f with v there, and these are below f if v is.
 placed_above : {n i v : ℕ} {f u : ℕ → ℕ} → Placed n f i v u → (h : ℕ → ℕ) → ((j : ℕ) → j < n → h j ≤ f j) → h i ≤ v → (j : ℕ) → j < n → h j ≤ u j
 placed_above placed h below small = placed_cases (λ j y. h j ≤ y) placed small below
@@ -80,53 +87,53 @@ module _ (top : ℕ) (b : Book ℕ) (inside : Inside b) (u : ℕ → ℕ) where
   attempt_fails placed x fails =
       record { never = λ h y below small. fails (greatest_held Part Laws b inside x y (placed_above placed h below (omega arith))) }
 
-  -- The step: the greatest labels with item i at v meet the floors, and no labelling below f has less there.
-  module _ {f w g : ℕ → ℕ} {i v : ℕ} (x : Lowered Part b u i f) (item : i < b.items) (placed : Placed b.items f i v w) (small : v ≤ f i) (y : Greatest Part b w g) (held : HeldUp Part b g) (none_less : NoneLess top b f i v) where
-    step_below : (j : ℕ) → j < b.items → g j ≤ f j
-    step_below j s = omega (arith, y.pushed.under j s, placed_below placed small j s)
-
-    step_labelling : LabellingBelow Part b u g
-    step_labelling = record {
-      labelling = greatest_labels Part Laws b (λ j s. omega (arith, placed_below placed small j s, x.below.labelling.labels j s)) y held;
-      under = λ j s. omega (arith, step_below j s, x.below.under j s);
-    }
+  -- The step: a labelling below f that at item i is least of all labellings below f, and greatest of those that have its value there.
+  module _ {f g : ℕ → ℕ} {i : ℕ} (x : Lowered Part b u i f) (item : i < b.items) (labels : Labelling Part b g) (below : (j : ℕ) → j < b.items → g j ≤ f j)
+      (least_here : (h : ℕ → ℕ) → Labelling Part b h → ((j : ℕ) → j < b.items → h j ≤ f j) → g i ≤ h i)
+      (greatest_there : (h : ℕ → ℕ) → Labelling Part b h → ((j : ℕ) → j < b.items → h j ≤ f j) → h i ≡ g i → (j : ℕ) → j < b.items → h j ≤ g j) where
+    to_labelling : LabellingBelow Part b u g
+    to_labelling = record { labelling = labels; under = λ j s. omega (arith, below j s, x.below.under j s) }
 
     -- the items before i keep their labels
-    step_keeps : (k : ℕ) → k ≤ i → AgreeBefore k f g
-    step_keeps zero s j l = absurd (not-suc-le-zero l)
-    step_keeps (suc k) s j l = go (step_keeps k (omega arith))
+    to_keeps : (k : ℕ) → k ≤ i → AgreeBefore k f g
+    to_keeps zero s j l = absurd (not-suc-le-zero l)
+    to_keeps (suc k) s j l = go (to_keeps k (omega arith))
       where
         go : AgreeBefore k f g → f j ≡ g j
-        go before = below_suc {P = λ m. f m ≡ g m} before (omega (arith, x.least k (omega arith) g step_labelling before, step_below k (omega arith))) j l
+        go before = below_suc {P = λ m. f m ≡ g m} before (omega (arith, x.least k (omega arith) g to_labelling before, below k (omega arith))) j l
 
     agree_back : (k : ℕ) → k ≤ i → (h : ℕ → ℕ) → AgreeBefore k g h → AgreeBefore k f h
-    agree_back k s h agree j l = step_keeps k s j l ∙ agree j l
+    agree_back k s h agree j l = to_keeps k s j l ∙ agree j l
 
+    -- a labelling that agrees before item i is below f
+    others_below : (h : ℕ → ℕ) → LabellingBelow Part b u h → AgreeBefore i g h → (j : ℕ) → j < b.items → h j ≤ f j
+    others_below h z agree = x.greatest h z (agree_back i (omega arith) h agree)
+
+    to_least : (j : ℕ) → j < suc i → (h : ℕ → ℕ) → LabellingBelow Part b u h → AgreeBefore j g h → g j ≤ h j
+    to_least j l h z = below_suc {P = λ k. AgreeBefore k g h → g k ≤ h k} before (λ agree. least_here h z.labelling (others_below h z agree)) j l
+      where
+        before : (k : ℕ) → k < i → AgreeBefore k g h → g k ≤ h k
+        before k s agree = omega (arith, x.least k s h z (agree_back k (omega arith) h agree), to_keeps i (omega arith) k s)
+
+    pub lowered_to : Lowered Part b u (suc i) g
+    lowered_to = record {
+      below = to_labelling;
+      greatest = λ h z agree. greatest_there h z.labelling (others_below h z (λ j l. agree j (omega arith))) (sym (agree i (omega arith)));
+      least = to_least;
+    }
+
+  -- So are the greatest labels with item i at v, if they meet the floors and no labelling below f has less there.
+  module _ {f w g : ℕ → ℕ} {i v : ℕ} (x : Lowered Part b u i f) (item : i < b.items) (placed : Placed b.items f i v w) (small : v ≤ f i) (y : Greatest Part b w g) (held : HeldUp Part b g) (none_less : NoneLess top b f i v) where
     step_here : g i ≤ v
     step_here = omega (arith, y.pushed.under i item, placed.here)
 
-    step_greatest : (h : ℕ → ℕ) → LabellingBelow Part b u h → AgreeBefore (suc i) g h → (j : ℕ) → j < b.items → h j ≤ g j
-    step_greatest h z agree =
-        y.above h (labelling_pushed Part Laws b z.labelling (placed_above placed h below (omega (arith, agree i (omega arith), step_here))))
-      where
-        below : (j : ℕ) → j < b.items → h j ≤ f j
-        below = x.greatest h z (agree_back i (omega arith) h (λ j l. agree j (omega arith)))
-
-    step_least_here : (h : ℕ → ℕ) → LabellingBelow Part b u h → AgreeBefore i g h → g i ≤ h i
-    step_least_here h z agree = pick (dec_le v (h i))
-      where
-        pick : Dec (v ≤ h i) → g i ≤ h i
-        pick (yes p) = omega (arith, step_here)
-        pick (no np) = absurd (none_less.never h z.labelling (x.greatest h z (agree_back i (omega arith) h agree)) (omega arith))
-
-    step_least : (j : ℕ) → j < suc i → (h : ℕ → ℕ) → LabellingBelow Part b u h → AgreeBefore j g h → g j ≤ h j
-    step_least j l h z = below_suc {P = λ k. AgreeBefore k g h → g k ≤ h k} before (step_least_here h z) j l
-      where
-        before : (k : ℕ) → k < i → AgreeBefore k g h → g k ≤ h k
-        before k s agree = omega (arith, x.least k s h z (agree_back k (omega arith) h agree), step_keeps i (omega arith) k s)
-
     pub lowered_step : Lowered Part b u (suc i) g
-    lowered_step = record { below = step_labelling; greatest = step_greatest; least = step_least }
+    lowered_step =
+        lowered_to x item
+        (greatest_labels Part Laws b (λ j s. omega (arith, placed_below placed small j s, x.below.labelling.labels j s)) y held)
+        (λ j s. omega (arith, y.pushed.under j s, placed_below placed small j s))
+        (λ h z below. omega (arith, step_here, not_less v (h i) (none_less.never h z below)))
+        (λ h z below same. y.above h (labelling_pushed Part Laws b z (placed_above placed h below (omega (arith, step_here)))))
 
   -- Where no labelling below f has less at item i, f stays.
   pub lowered_stays : {f : ℕ → ℕ} {i : ℕ} → Lowered Part b u i f → i < b.items → NoneLess top b f i (f i) → Lowered Part b u (suc i) f

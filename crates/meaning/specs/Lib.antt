@@ -1,5 +1,5 @@
 -- What rules mean, which labelling is wanted, and which part is refused. The files Inner.. are what only the solver and the argument for it speak of: greatest labels below a
--- bound, and labels that are lowered item by item.
+-- bound, labels that are lowered item by item, and labels that are settled while what cannot be met is set aside.
 pub mod Values
 pub mod Rules
 pub mod Labelling
@@ -8,3 +8,4 @@ pub mod Classes
 pub mod Examples
 pub mod InnerGreatest
 pub mod InnerLowered
+pub mod InnerPruned
