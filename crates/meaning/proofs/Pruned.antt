@@ -1,7 +1,7 @@
 -- Settling with what cannot be met set aside, in one part: how it begins, what looking at a rule does, and where it ends. Then the law of an attempt at an item: the labels that
 -- fell, each given its old value back as far as what cannot be met reaches, are lowered one item further.
 -- Assumes nothing.
-use mathlib.Core.Path.{◌≡◌, refl, sym, ◌∙◌, subst}
+use mathlib.Core.Path.{◌≡◌, sym, subst}
 use Prim.Native.Nat.{ℕ, zero, suc, ◌≤◌, ◌<◌, min, max}
 use native.Mathlib.Decide.{ℕ_discrete, dec_le}
 use native.Mathlib.Omega.{arith}
