@@ -5,11 +5,10 @@ built the program.
 Both programs strip the same exports of 100 MB and run in the same way, that of tests/run-program, in turn. First their outputs must be equal
 byte for byte. A speed is the export's bytes over processor time, which other work on the machine changes little: the median of RUNS runs
 (five, if not said), less the median of as many runs of the same program on a header alone. The ratio is the stripping program's speed over that
-of C: at 0.5 it is half as fast. Then the most memory that each holds at once while it strips 1, 10 and 100 MB, the emulator's own included.
+of C: at 0.5 it is half as fast. Then the most memory that each holds at once while it strips 1, 10 and 100 MB.
 
 bench/strip.c is built as bench/label.py builds label.c. MLR_X86_64 in the environment may name an x86-64 `mlr`, which then strips one of the
-exports, cut to 10 MB, in the same way; an `mlr` or `csvtool` that is installed is run too, but on a processor of another kind as it is, without the emulator,
-and then its speed is not to be compared. Neither keeps the quoting nor looks at sizes."""
+exports, cut to 10 MB, in the same way; an `mlr` or `csvtool` that is installed is run too. Neither keeps the quoting nor looks at sizes."""
 import filecmp
 import os
 import platform
@@ -122,7 +121,7 @@ class Runner:
     def __init__(self, room):
         said = subprocess.run(["tests/run-program", "--prefix"], check=True, stdout=subprocess.PIPE, text=True)
         self.prefix = said.stdout.splitlines()
-        self.env = {name: value for name, value in os.environ.items() if not name.startswith("QEMU_")}
+        self.env = dict(os.environ)
         self.room = room
 
     def start(self, command, **streams):
@@ -169,10 +168,9 @@ def others(columns, path):
     found = []
     if os.environ.get("MLR_X86_64"):
         found.append(("mlr, x86-64, run in the same way", [os.environ["MLR_X86_64"]] + mlr, True))
-    same = platform.machine() == "x86_64"
     for tool, words in (("mlr", mlr), ("csvtool", csvtool)):
         if shutil.which(tool):
-            found.append((f"{tool}, {'as installed' if same else 'without the emulator: not to be compared'}", [shutil.which(tool)] + words, False))
+            found.append((f"{tool}, as installed", [shutil.which(tool)] + words, False))
     return found
 
 

@@ -40,7 +40,7 @@ class Program:
         copy = shutil.copy(built, os.path.join(self.room, "program"))
         os.chmod(copy, 0o755)
         self.command = said.stdout.splitlines() + [copy]
-        self.env = {name: value for name, value in os.environ.items() if not name.startswith("QEMU_")}
+        self.env = dict(os.environ)
         self.output, self.error = (open(os.path.join(self.room, name), "w+b") for name in ("output", "error"))
 
     def __enter__(self):

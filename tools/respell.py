@@ -6,7 +6,8 @@ usage: respell.py [FOLDER]
 A word is parted from the next by one underscore: nameByte and name-byte become name_byte. A name that begins with a
 capital (a type, a fact, a module) keeps its spelling, and so does what Rattle source, a library or a generated file names.
 It rewrites the .antt files, the clauses and ghost lines of .rt files, the must-fail edits, and the names in backticks
-of README.md and docs/, below FOLDER (this folder, if none is given). A second run changes nothing.
+of README.md and docs/, below FOLDER (this folder, if none is given). It is for files that port.py has just turned: in later ones it would take
+the names of goals and steps, which Rattle makes, for names of the repository's own.
 """
 
 import collections

@@ -1,14 +1,15 @@
 // Reading into a buffer until it is full.
 #![tactic(auto)]
 
-ghost use Rattle.std.specs.Prelude.{◌≤◌, length, IfOk};
+ghost use Rattle.std.specs.Prelude.{◌≡◌, ◌≤◌, length, IfOk, OnErr};
 
 use std::io;
 use std::io::Read;
 
 // Reads until the buffer is full or the input ends. Answers how many bytes are held then, and an error where a read fails.
 pub fn fill<R: Read>(input: &mut R, buf: &mut [u8]) -> io::Result<usize>
-    ensures { IfOk result (λ n. n ≤ length buf.new) }
+    ensures ok { IfOk result (λ n. n ≤ length buf.new) }
+    ensures err { OnErr result (length buf.new ≡ length buf.old) }
 {
     let mut have = 0;
     while have < buf.len() {

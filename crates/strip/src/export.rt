@@ -2,9 +2,10 @@
 // cannot go on by that, one read is made: so what is bad is refused as soon as it is held, and good records are written.
 //
 // The turns of each loop are counted down from a number that no run uses up, since a proved loop has to end.
-ghost use Rattle.std.specs.Prelude.{◌≡◌, ◌≤◌, length, IfOk};
+ghost use Rattle.std.specs.Prelude.{◌≡◌, ◌≤◌, length, IfOk, OnErr};
 ghost use Rattle.strip.specs.InnerHeld.{Held, Holds};
 
+use crate::failure::fail;
 use crate::input::{Input, nothing, read_on};
 use crate::refusal::refuse;
 use classes::Class;
@@ -107,7 +108,8 @@ fn strip_held(
     place: Place,
 ) -> io::Result<Place>
     requires { Holds place.have buf.old }
-    ensures { IfOk result (λ p. p.have ≤ length buf.new) }
+    ensures ok { IfOk result (λ p. p.have ≤ length buf.new) }
+    ensures err { OnErr result (length buf.new ≡ length buf.old) }
 {
     let have = place.have;
     match strip(&buf[..have], place.last, kept, place.number, out) {
@@ -138,10 +140,11 @@ fn write_records(
     place: Place,
 ) -> io::Result<Place>
     requires { Held used place.have buf.old }
-    ensures { IfOk result (λ p. p.have ≤ length buf.new) }
+    ensures ok { IfOk result (λ p. p.have ≤ length buf.new) }
+    ensures err { OnErr result (length buf.new ≡ length buf.old) }
 {
     if let Err(error) = rt.stdout().write_all(lines) {
-        eprintln!(rt; "standard output: {error}")?;
+        fail(rt, "standard output", error)?;
         return Ok(stopped(place));
     }
     Ok(Place {

@@ -1,6 +1,7 @@
 // Reading standard input into a buffer. A read into a buffer with no room left would look like the end of the input, so that none is made.
-ghost use Rattle.std.specs.Prelude.{◌<◌, ◌≤◌, length, IfOk};
+ghost use Rattle.std.specs.Prelude.{◌≡◌, ◌<◌, ◌≤◌, length, IfOk, OnErr};
 
+use crate::failure::fail;
 use std::io;
 use std::io::Read;
 
@@ -15,12 +16,13 @@ pub(crate) struct Input {
 // One read of standard input behind the bytes that are held, however many bytes it gives. That it fails is said on standard error.
 pub(crate) fn read_on(rt: &HostRuntime, buf: &mut [u8], have: usize) -> io::Result<Input>
     requires { have < length buf.old }
-    ensures { IfOk result (λ i. i.have ≤ length buf.new) }
+    ensures ok { IfOk result (λ i. i.have ≤ length buf.new) }
+    ensures err { OnErr result (length buf.new ≡ length buf.old) }
 {
     match read_once(&mut rt.stdin(), buf, have) {
         Ok(input) => Ok(input),
         Err(error) => {
-            eprintln!(rt; "standard input: {error}")?;
+            fail(rt, "standard input", error)?;
             Ok(Input {
                 have,
                 last: false,
@@ -46,6 +48,7 @@ fn read_once<R: Read>(input: &mut R, buf: &mut [u8], have: usize) -> io::Result<
     requires { have < length buf.old }
     ensures have_le_have { IfOk result (λ i. have ≤ i.have) }
     ensures have_in_bounds { IfOk result (λ i. i.have ≤ length buf.new) }
+    ensures err { OnErr result (length buf.new ≡ length buf.old) }
 {
     let n = input.read(&mut buf[have..])?;
     Ok(Input {

@@ -6,6 +6,7 @@ ghost use Rattle.std.specs.Prelude.{◌≤◌, length, IfOk};
 
 mod arguments;
 mod export;
+mod failure;
 mod input;
 mod refusal;
 
@@ -13,6 +14,7 @@ use arguments::{are_two, argument};
 use assign::{Assigned, assign};
 use columns::{Reader, reader_class};
 use export::strip_export;
+use failure::fail;
 use fills::fill;
 use refusal::refuse;
 use refusals::{MOST_ITEMS, MOST_TEXT};
@@ -40,7 +42,7 @@ fn main(rt: HostRuntime) -> io::Result<()> {
     let mut book = [0u8; ENOUGH];
     match read_book(&rt, path, &mut book) {
         Ok(len) => run(&rt, &book[..len]),
-        Err(error) => eprintln!(rt; "{path}: {error}"),
+        Err(error) => fail(&rt, path, error),
     }
 }
 
