@@ -11,7 +11,6 @@ bench/strip.c is built as bench/label.py builds label.c. MLR_X86_64 in the envir
 exports, cut to 10 MB, in the same way; an `mlr` or `csvtool` that is installed is run too. Neither keeps the quoting nor looks at sizes."""
 import filecmp
 import os
-import platform
 import random
 import shutil
 import statistics
