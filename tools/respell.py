@@ -10,7 +10,6 @@ of README.md and docs/, below FOLDER (this folder, if none is given). It is for 
 the names of goals and steps, which Rattle makes, for names of the repository's own.
 """
 
-import collections
 import os
 import re
 import sys

@@ -12,7 +12,7 @@ use tokens::{ReadClass, read_class};
 const LINE: usize = 17;
 
 // What the text of a class has in front of its sixteen digits.
-const LEVEL: usize = 2;
+pub(crate) const LEVEL: usize = 2;
 
 // One word: its value, whether its line has the form, and whether the input had ended before it.
 #[derive(Clone, Copy)]

@@ -1,5 +1,6 @@
 // Words of standard output: each is a line of sixteen hex digits.
 use crate::answer::Answer;
+use crate::input::LEVEL;
 use classes::Class;
 use puts::{put, put_class};
 use scans::LF;
@@ -8,9 +9,6 @@ use std::io::Print;
 
 // The bytes of a line.
 const LINE: usize = 17;
-
-// What the text of a class has in front of its sixteen digits.
-const LEVEL: usize = 2;
 
 // The bytes that are written at once: whole lines.
 const CHUNK: usize = LINE * 240;
