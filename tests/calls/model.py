@@ -1,4 +1,4 @@
-"""The model: what each routine of README.md's table answers and leaves in its buffers, worked out from documents 01 and 02."""
+"""The model: what each routine of README.md's table answers and leaves in its buffers, worked out from docs/RULES.md."""
 
 import model_exports as exports
 import model_tables as tables

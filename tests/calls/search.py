@@ -1,6 +1,6 @@
 """The wanted labels of a book of any size.
 
-A book is gone through in the order in which document 01 compares labellings: part by part, item by item in book order, the smallest value first.
+A book is gone through in the order in which docs/RULES.md compares labellings: part by part, item by item in book order, the smallest value first.
 The first labelling that is found is then the wanted one: any other differs first at an item where it has more. A value is left out only where no
 labelling can have it: a rule asks for something that just one name on its left can still reach, so that this one must, or that none of them can.
 Where second.py can try every labelling, it has to find the same.

@@ -1,4 +1,4 @@
--- The class, as document 01 has it: a level 0 to 15 and a set of marks 0 to 63.
+-- The class, as docs/RULES.md has it: a level 0 to 15 and a set of marks 0 to 63.
 -- Assumes nothing.
 use Rattle.std.specs.Prelude.{◌≡◌, ℕ, ◌^◌, ◌≤◌, ◌<◌, min, max}
 use Rattle.classes.specs.Bits.{bit, word}

@@ -1,4 +1,4 @@
--- Names, as document 01 has them: "A NAME is 1 to 16 bytes of a-z, 0-9 and hyphen."
+-- Names, as docs/RULES.md has them: "A NAME is 1 to 16 bytes of a-z, 0-9 and hyphen."
 -- Assumes nothing.
 use Rattle.std.specs.Prelude.{Bool, true, ◌&&◌, List, [], ◌∷◌, ℕ, leb, length}
 use Rattle.scans.specs.Bytes.{name_byte}

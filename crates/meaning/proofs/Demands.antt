@@ -1,4 +1,4 @@
--- The theorems of demands 2 and 3, said of classes.
+-- The theorems of the second and the third demand, said of classes.
 -- Assumes nothing.
 use mathlib.Core.Path.{◌≡◌, refl}
 use mathlib.Core.Logic.{◌⊎◌}

@@ -34,6 +34,6 @@ examples_pass : T (every_below (length examples) (λ k. rightb (example_at k).bo
 unfolding rightb every_below failing tabulate total met_downb met_upb push settle greatest_list solvableb numbers_lattice leftb ruleb insideb ceiling leastb labelsb meetsb wanted_inb wantedb possibleb refusedb is_classb bit part top_of
 examples_pass = tt
 
--- Each of the twelve books gives what document 01 says.
+-- Each of the twelve books gives what docs/RULES.md says.
 pub examples_right : (k : ℕ) → k < length examples → Right (example_at k).book (example_at k).answer
 examples_right k s = rightb_holds (example_at k).book (example_at k).answer (every_at (length examples) _ examples_pass k s)

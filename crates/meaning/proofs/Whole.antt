@@ -1,5 +1,5 @@
 -- From the parts to the whole: a labelling is one in every part, least in every part is wanted and the other way round, and with that the theorems
--- of demands 2 and 3: a wanted labelling exists whenever any labelling does, there is only one, the refused part is the only one, and one part's
+-- of the second and the third demand: a wanted labelling exists whenever any labelling does, there is only one, the refused part is the only one, and one part's
 -- labels depend on that part alone.
 -- Assumes nothing.
 use mathlib.Core.Path.{◌≡◌, refl, sym, ◌∙◌, ap, subst}

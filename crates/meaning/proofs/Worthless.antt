@@ -1,4 +1,4 @@
--- The four worthless solvers of document 01. What each would answer on a book of the table is not what the definitions allow.
+-- The four worthless solvers of docs/RULES.md. What each would answer on a book of the table is not what the definitions allow.
 -- Assumes nothing.
 use mathlib.Core.Path.{ap}
 use Prim.Native.Nat.{ℕ, zero, suc}

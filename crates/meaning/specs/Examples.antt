@@ -1,4 +1,4 @@
--- The twelve small books of document 01 and what each is to give. P11 stands twice, with either floor.
+-- The twelve small books of docs/RULES.md and what each is to give. P11 stands twice, with either floor.
 -- Assumes nothing.
 use Rattle.std.specs.Prelude.{◌≡◌, List, [], ◌∷◌, ℕ, length, get_or}
 use Rattle.classes.specs.Class.{class_of, lowest}

@@ -1,4 +1,4 @@
--- "Numbers of refusal": the number of each fault, as the tables of documents 01 and 02 have it.
+-- "Numbers of refusal": the number of each fault, as the table of docs/RULES.md has it.
 -- Assumes nothing.
 use Rattle.std.specs.Prelude.{ℕ}
 use Rattle.refusals.specs.declared.Fault.{Fault}

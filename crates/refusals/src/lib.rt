@@ -1,4 +1,4 @@
-// The refusals that documents 01 and 02 number, each with its place, and the sizes past which a text or a book is refused.
+// The refusals that docs/RULES.md numbers, each with its place, and the sizes past which a text or a book is refused.
 #![tactic(auto)]
 
 ghost use Rattle.std.specs.Prelude.{◌≡◌};

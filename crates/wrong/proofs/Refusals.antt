@@ -12,6 +12,6 @@ fault_number_of_a_name_twice_is_6 e = let z : ◌≡◌ {A = ℕ} 6 5 = e in ome
 pub fault_number_of_no_such_item_is_5 : 5 ≡ fault_number Fault.NoSuchItem → ⊥
 fault_number_of_no_such_item_is_5 e = let z : ◌≡◌ {A = ℕ} 5 6 = e in omega arith
 
--- The numbers of document 02 do not follow those of document 01.
+-- The numbers of stripping do not follow those of rulebooks.
 pub fault_number_of_csv_syntax_is_13 : 13 ≡ fault_number Fault.CsvSyntax → ⊥
 fault_number_of_csv_syntax_is_13 e = let z : ◌≡◌ {A = ℕ} 13 16 = e in omega arith

@@ -1,5 +1,5 @@
--- Wrong answers of `solver`: the four worthless solvers of document 01 as answers of `solve` for a book of two items and no rules, in which the lowest class is
--- the label of both; and others, for the books P3 and P5 of document 01.
+-- Wrong answers of `solver`: the four worthless solvers of docs/RULES.md as answers of `solve` for a book of two items and no rules, in which the lowest class is
+-- the label of both; and others, for the books P3 and P5 of docs/RULES.md.
 -- Assumes nothing.
 use mathlib.Core.Path.{◌≡◌, refl, ap}
 use mathlib.Core.List.{List, [], ◌∷◌, ◌++◌}
