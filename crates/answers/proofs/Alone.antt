@@ -6,6 +6,7 @@ use mathlib.Core.Path.{◌≡◌, refl, sym, subst}
 use mathlib.Core.List.{List, [], ◌∷◌}
 use Prim.Native.Nat.{ℕ, ◌<◌}
 use lib.ListN.{length, take}
+use Rattle.std.specs.Prelude.{Ok}
 use Rattle.laws.proofs.Buffers.{front_over}
 use Rattle.classes.specs.Parts.{part_count}
 use Rattle.meaning.specs.Classes.{ClassesAgree}
@@ -17,11 +18,9 @@ use Rattle.rules.proofs.Agreeing.{tables_agree}
 use Rattle.accepts.proofs.Inside.{table_inside}
 use Rattle.reader.specs.Agreeing.{TextsAgree}
 use Rattle.reader.specs.Reading.{read_text, read_whole}
-use Rattle.reader.specs.declared.ReadBook.{ReadBook}
 use Rattle.reader.proofs.Agreeing.{texts_agree}
 use Rattle.reader.proofs.Books.{read_tables}
 use Rattle.writer.specs.Writing.{said_written}
-use Rattle.writer.specs.declared.Written.{Written}
 use Rattle.answers.specs.Answering.{no_labelling, BookPrints, unlabelled, labelled, AnswerSays, unread, book, PrintsLabels, Printed, refusal, labelling, RoutineSays, no_room, written}
 
 pub answer_one_part_alone : {l m x y : List ℕ} {h k : Head} {levels marks levels' marks' : List ℕ} {p : ℕ} → p < part_count → TextsAgree p l m
@@ -36,7 +35,7 @@ pub answer_printed : {l x : List ℕ} → AnswerSays l x → Printed l x
 answer_printed (unread {r} e) = refusal r refl
 answer_printed {l} (book {h} e prints) = printed prints e
   where
-    printed : {x : List ℕ} → BookPrints h (read_text l).names (read_text l).words x → read_whole l ≡ ReadBook.Book h → Printed l x
+    printed : {x : List ℕ} → BookPrints h (read_text l).names (read_text l).words x → read_whole l ≡ Ok h → Printed l x
     printed (unlabelled {p} x) e = refusal (no_labelling p) refl
     printed (labelled levels marks x) e = labelling h levels marks (record { whole = e; wanted = x; text = refl })
 
@@ -50,5 +49,5 @@ wrote : {l out : List ℕ} {s : Said} {out' : List ℕ} → RoutineSays l out s 
 wrote (no_room a s) = tt
 wrote {l} {out} (written {x} a s) = subst (AnswerSays l) (sym (front_over out x (length x) refl s)) a
 
-pub written_printed : {l out out' : List ℕ} {n : ℕ} → RoutineSays l out (said_written (Written.Text n)) out' → Printed l (take n out')
+pub written_printed : {l out out' : List ℕ} {n : ℕ} → RoutineSays l out (said_written (Ok n)) out' → Printed l (take n out')
 written_printed says = answer_printed (wrote says)

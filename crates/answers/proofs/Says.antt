@@ -2,57 +2,38 @@
 -- Assumes nothing.
 use mathlib.Core.Path.{◌≡◌, refl, sym, subst, ◌∙◌}
 use mathlib.Core.List.{List, [], ◌∷◌}
-use Prim.Native.Nat.{ℕ, ◌-◌, ◌*◌, ◌≤◌, ◌<◌}
-use native.Mathlib.Nat.{sub-zero}
+use Prim.Native.Nat.{ℕ, ◌*◌, ◌≤◌}
+use native.Mathlib.Nat.{zero-add}
 use native.Mathlib.Omega.{arith}
-use lib.ListN.{length, take, drop}
+use lib.ListN.{length, take}
 use lib.Seq.{length-take-le}
-use Rattle.laws.specs.Over.{over}
+use Rattle.std.specs.Prelude.{Option, Some, IsSome, Result, Ok, Err, IsOk}
+use Rattle.std.specs.Option.{ok_or}
 use Rattle.laws.proofs.First.{first_not_all}
 use Rattle.laws.proofs.Buffers.{front_over}
 use Rattle.laws.proofs.Over.{over_length}
-use Rattle.refusals.specs.Numbers.{fault_number}
 use Rattle.refusals.specs.Sizes.{most_items}
-use Rattle.refusals.specs.Said.{Said, success, refused}
+use Rattle.refusals.specs.Said.{Said, success}
 use Rattle.refusals.specs.declared.Fault.{Fault}
 use Rattle.refusals.specs.declared.Refusal.{Refusal}
 use Rattle.items.specs.Names.{name_room}
 use Rattle.rules.specs.declared.Head.{Head}
-use Rattle.scans.specs.Ascii.{lf}
-use Rattle.keys.specs.Keys.{key_text, refused_key, at_key}
-use Rattle.keys.specs.declared.Key.{Key}
-use Rattle.tokens.specs.Tokens.{count_text}
 use Rattle.puts.specs.Writing.{Put}
-use Rattle.puts.specs.InnerGrowing.{Grown, Front}
-use Rattle.puts.proofs.Placed.{put_buffer}
-use Rattle.puts.proofs.Growing.{put_grown, grown_grown, grown_put, front_there}
+use Rattle.puts.specs.InnerGrowing.{Grown, whole, full, Front}
+use Rattle.puts.proofs.Placed.{put_untouched}
+use Rattle.puts.proofs.Growing.{put_grown, grown_front, grown_some}
 use Rattle.solver.specs.Solving.{held}
 use Rattle.writer.specs.Texts.{labels_text}
 use Rattle.writer.specs.Writing as writing
 use Rattle.writer.specs.Writing.{said_written, LabelsSays, bad_items, few_labels, bad_label, short_buffer}
-use Rattle.writer.specs.declared.Written.{Written}
 use Rattle.writer.proofs.Lengths.{labels_short}
 use Rattle.writer.proofs.Unique.{written_told}
-use Rattle.assign.specs.declared.Assigned.{Assigned}
 use Rattle.assign.specs.Assigning.{said_assigned, lent, AssignSays}
 use Rattle.assign.proofs.Labelled.{levels_in_range}
-use Rattle.answers.specs.Answering.{count_line, refusal_text, AnswerSays, RoutineSays, no_room, written}
+use Rattle.answers.specs.Answering.{refusal_text, AnswerSays, RoutineSays, no_room, written}
 use Rattle.answers.specs.Inner.{Whole, PrintReady, FrontWith}
 use Rattle.answers.proofs.Short.{refusal_short}
 use Rattle.answers.proofs.Told.{told_by, labels_printed}
-
--- A key, a count and an LF are a line.
-pub line_grown : {key d : List ℕ} (n : ℕ) {at : ℕ} {d₁ : List ℕ} {r₁ : ℕ} {d₂ : List ℕ} {r₂ : ℕ} {d₃ : List ℕ} {r₃ : ℕ} → Put d at key d₁ r₁ → Put d₁ r₁ (count_text n) d₂ r₂
-    → Put d₂ r₂ (lf ∷ []) d₃ r₃ → Grown d at (count_line key n) d₃ r₃
-line_grown n p q r = grown_put (grown_put (put_grown p) q) r
-
--- The four lines of a refusal.
-pub refusal_grown : (refusal : Refusal) {number : ℕ} {d d₁ d₂ d₃ d₄ : List ℕ} {r₁ r₂ r₃ r₄ : ℕ} → Whole d → number ≡ fault_number refusal.fault
-    → Grown d 0 (count_line (key_text Key.Form) 1) d₁ r₁ → Grown d₁ r₁ (count_line refused_key number) d₂ r₂ → Grown d₂ r₂ (count_line at_key refusal.place) d₃ r₃
-    → Grown d₃ r₃ (count_line (key_text Key.End) 3) d₄ r₄ → Front (refusal_text refusal) d₄ r₄
-unfolding refusal_text
-refusal_grown refusal {d = d} size e form numbered placed end =
-    front_there (grown_grown (grown_grown (grown_grown form (rw e at numbered)) placed) end) (omega (arith, size.size, refusal_short refusal))
 
 -- Right labels are written, whatever the buffer held.
 module _ {t : List ℕ} {n : ℕ} {levels marks d : List ℕ} (ready : PrintReady t n levels marks d) where
@@ -76,21 +57,21 @@ module _ {t : List ℕ} {n : ℕ} {levels marks d : List ℕ} (ready : PrintRead
     },
   )
 
-  module _ {a : Written} {d' : List ℕ} (says : LabelsSays t n levels marks d (said_written a) d') where
-    answer_is : a ≡ Written.Text (length (labels_text t n levels marks))
+  module _ (a : Result ℕ Refusal) {d' : List ℕ} (says : LabelsSays t n levels marks d (said_written a) d') where
+    answer_is : a ≡ Ok (length (labels_text t n levels marks))
     answer_is = written_told (wrote says).0
 
-    pub labels_written : {k : ℕ} → a ≡ Written.Text k → Front (labels_text t n levels marks) d' k
+    pub labels_written : {k : ℕ} → a ≡ Ok k → Front (labels_text t n levels marks) d' k
     labels_written {k} e = let same : length (labels_text t n levels marks) ≡ k = (let both = sym answer_is ∙ e in cc) in subst (Front (labels_text t n levels marks) d') same (wrote says).1
 
-    pub labels_never_refused : {r : Refusal} → a ≡ Written.Refused r → ⊥
-    labels_never_refused e = let both = sym answer_is ∙ e in let never : ◌≡◌ {A = ℕ} 0 1 = cc in omega arith
+    pub labels_ok : IsOk a
+    labels_ok = rw answer_is refl
 
 -- What was assigned, into buffers with room for every book.
-module _ {l items levels marks : List ℕ} {a : Assigned} {items' levels' marks' : List ℕ}
+module _ {l items levels marks : List ℕ} {a : Result Head Refusal} {items' levels' marks' : List ℕ}
     (says : AssignSays l (lent items (held levels marks)) (said_assigned a) (lent items' (held levels' marks'))) (bytes : length items ≡ most_items * name_room)
     (many : length levels ≡ most_items) (much : length marks ≡ most_items) where
-  pub labels_ready : {h : Head} → a ≡ Assigned.Labelled h → {d : List ℕ} → Whole d → PrintReady items' h.items levels' marks' d
+  pub labels_ready : {h : Head} → a ≡ Ok h → {d : List ℕ} → Whole d → PrintReady items' h.items levels' marks' d
   labels_ready e size =
       let x = told_by says (record { items = bytes; levels = many; marks = much }) e in
       record {
@@ -98,30 +79,36 @@ module _ {l items levels marks : List ℕ} {a : Assigned} {items' levels' marks'
         buffer = size;
       }
 
-  pub answer_labelled : {h : Head} → a ≡ Assigned.Labelled h → {d : List ℕ} {r : ℕ} → Front (labels_text items' h.items levels' marks') d r
+  pub answer_labelled : {h : Head} → a ≡ Ok h → {d : List ℕ} {r : ℕ} → Front (labels_text items' h.items levels' marks') d r
       → FrontWith (AnswerSays l) d r
   answer_labelled e front = record {
     holds = rw front.text (labels_printed (told_by says (record { items = bytes; levels = many; marks = much }) e));
     within = front.within;
   }
 
-  pub answer_refused : {refusal : Refusal} → a ≡ Assigned.Refused refusal → {d : List ℕ} {r : ℕ} → Front (refusal_text refusal) d r → FrontWith (AnswerSays l) d r
+  pub answer_refused : {refusal : Refusal} → a ≡ Err refusal → {d : List ℕ} {r : ℕ} → Front (refusal_text refusal) d r → FrontWith (AnswerSays l) d r
   answer_refused e front = record {
     holds = rw front.text (told_by says (record { items = bytes; levels = many; marks = much }) e);
     within = front.within;
   }
 
--- The answer, copied out.
-module _ {l d : List ℕ} {r : ℕ} (front : FrontWith (AnswerSays l) d r) where
-  long : length (take r d) ≡ r
-  long = length-take-le r d front.within
+-- The four lines of a refusal, which always have room.
+module _ (refusal : Refusal) {d : List ℕ} (size : Whole d) {d' : List ℕ} {o : Option ℕ} (g : Grown d 0 (refusal_text refusal) d' o) where
+  pub refusal_some : IsSome o
+  refusal_some = grown_some g (omega (arith, size.size, refusal_short refusal))
 
-  pub routine_roomless : {out : List ℕ} → length out < r → RoutineSays l out (refused (fault_number Fault.NoRoom) 0) out
-  routine_roomless h = no_room front.holds (omega (arith, long))
+  pub refusal_front : {k : ℕ} → o ≡ Some k → Front (refusal_text refusal) d' k
+  refusal_front some = grown_front (rw some at g)
 
-  pub routine_copied : {out out' : List ℕ} {q : ℕ} → r ≤ length out → Put out 0 (take (r - 0) (drop 0 d)) out' q → RoutineSays l out (said_written (Written.Text r)) out'
-  routine_copied {out} {out'} h put =
-      subst (λ (k : ℕ). RoutineSays l out (success 0 (k ∷ [])) out') long (rw there (written front.holds (omega (arith, long))))
-    where
-      there : out' ≡ over out 0 (take r d)
-      there = put_buffer (rw sub-zero at put) (omega (arith, long))
+-- The answer, copied out, with the refusal e where there is no room.
+pub routine_says : {l d : List ℕ} {n : ℕ} → FrontWith (AnswerSays l) d n → {out out' : List ℕ} {o : Option ℕ} → Put out 0 (take n d) out' o
+    → RoutineSays l out (said_written (ok_or o (record { fault = Fault.NoRoom; place = 0 }))) out'
+routine_says {l} {d} {n} front {out} {out'} {o} put = by put (put_grown put)
+  where
+    long : length (take n d) ≡ n
+    long = length-take-le n d front.within
+
+    by : {out' : List ℕ} {o : Option ℕ} → Put out 0 (take n d) out' o → Grown out 0 (take n d) out' o
+        → RoutineSays l out (said_written (ok_or o (record { fault = Fault.NoRoom; place = 0 }))) out'
+    by put (whole room) = rw zero-add (written front.holds (omega arith))
+    by put (full s h) = rw (put_untouched put h) (no_room front.holds (omega arith))

@@ -6,6 +6,7 @@ use mathlib.Core.List.{List, [], ◌∷◌, ◌++◌}
 use Prim.Native.Nat.{ℕ, ◌+◌, ◌≤◌}
 use native.Mathlib.Omega.{arith}
 use lib.ListN.{length, length-append}
+use Rattle.std.specs.Prelude.{Result, Ok}
 use Rattle.laws.proofs.Over.{over_length}
 use Rattle.refusals.specs.Numbers.{fault_number}
 use Rattle.refusals.specs.Sizes.{most_text}
@@ -21,7 +22,6 @@ use Rattle.tokens.specs.Tokens.{count_text}
 use Rattle.tokens.proofs.Values.{digits_length, decimal_most}
 use Rattle.reader.proofs.Books.{read_tables}
 use Rattle.writer.specs.Writing.{said_written}
-use Rattle.writer.specs.declared.Written.{Written}
 use Rattle.writer.proofs.Lengths.{labels_short}
 use Rattle.writer.proofs.Unique.{written_told}
 use Rattle.answers.specs.Answering.{count_line, refusal_text, BookPrints, unlabelled, labelled, AnswerSays, unread, book, RoutineSays, no_room, written}
@@ -69,9 +69,9 @@ in_buffer : {l out d : List ℕ} {s : Said} → most_text ≤ length out → Rou
 in_buffer room (no_room says short) = absurd (omega (arith, answer_short says))
 in_buffer {out = out} room (written {x} says fits) = record { len = length x; is = refl; within = omega (arith, over_length out 0 x (omega arith)) }
 
-module _ {l out d : List ℕ} {a : Written} (says : RoutineSays l out (said_written a) d) (room : most_text ≤ length out) where
-  text : a ≡ Written.Text (in_buffer room says).len
+module _ {l out d : List ℕ} {a : Result ℕ Refusal} (says : RoutineSays l out (said_written a) d) (room : most_text ≤ length out) where
+  text : a ≡ Ok (in_buffer room says).len
   text = written_told (in_buffer room says).is
 
-  pub answer_within : {k : ℕ} → a ≡ Written.Text k → k ≤ length d
+  pub answer_within : {k : ℕ} → a ≡ Ok k → k ≤ length d
   answer_within {k} e = let same = sym text ∙ e in let count : (in_buffer room says).len ≡ k = cc in omega (arith, (in_buffer room says).within)

@@ -6,6 +6,8 @@ use mathlib.Core.List.{List, ◌++◌, ◌∷◌, []}
 use Prim.Native.Nat.{ℕ, ◌+◌, ◌*◌, ◌≤◌, ◌<◌}
 use native.Mathlib.Omega.{arith}
 use lib.ListN.{length}
+use Rattle.std.specs.Prelude.{Result, Ok, Err}
+use Rattle.refusals.specs.declared.Refusal.{Refusal}
 use Rattle.classes.specs.declared.Class.{Class}
 use Rattle.refusals.specs.Sizes.{most_items}
 use Rattle.refusals.specs.Said.{Said, success, refused}
@@ -18,12 +20,10 @@ use Rattle.scans.specs.Ascii.{lf, colon}
 use Rattle.keys.specs.Keys.{label_key}
 use Rattle.tokens.specs.Tokens.{class_text}
 use Rattle.reader.specs.Reading.{read_text, read_whole}
-use Rattle.reader.specs.declared.ReadBook.{ReadBook}
 use Rattle.reader.proofs.Books.{read_tables}
 use Rattle.solver.specs.Solving.{Buffers, held, SolveSays, bad_table, no_room, has_no_labelling, writes_labels}
 use Rattle.writer.specs.Texts.{form_line, end_line, label_line, labels_text}
 use Rattle.writer.proofs.Pieces.{pieces_same}
-use Rattle.assign.specs.declared.Assigned.{Assigned}
 use Rattle.assign.specs.Assigning.{said_head, said_assigned, Lent, lent, items_over, BookSays, short_items, unsolved, solved, AssignSays}
 use Rattle.assign.specs.Assigning as assigning
 use Rattle.assign.proofs.Labelled.{LabelledAs, labelled_as}
@@ -37,16 +37,16 @@ pub record WholeLent (b : Lent) : Type 0 where
   pub marks : length b.labels.marks ≡ most_items
 
 -- What is told by an answer: labels, or the text of a refusal that is printed.
-abbrev pub Told : List ℕ → Lent → Assigned → Type 0
-Told l b (Assigned.Labelled h) = LabelledAs l h b
-Told l b (Assigned.Refused r) = AnswerSays l (refusal_text r)
+abbrev pub Told : List ℕ → Lent → Result Head Refusal → Type 0
+Told l b (Ok h) = LabelledAs l h b
+Told l b (Err r) = AnswerSays l (refusal_text r)
 
 pub record Fact (l : List ℕ) (b : Lent) (s : Said) : Type 0 where
-  pub answer : Assigned
+  pub answer : Result Head Refusal
   pub is : s ≡ said_assigned answer
   pub told : Told l b answer
 
-module _ (l : List ℕ) {h : Head} (whole : read_whole l ≡ ReadBook.Book h) {before : Lent} (room : WholeLent before) where
+module _ (l : List ℕ) {h : Head} (whole : read_whole l ≡ Ok h) {before : Lent} (room : WholeLent before) where
   right : Tables h (read_text l).names (read_text l).words
   right = read_tables l whole
 
@@ -57,11 +57,11 @@ module _ (l : List ℕ) {h : Head} (whole : read_whole l ≡ ReadBook.Book h) {b
       → Fact l (lent before.items labels) (refused n p)
   unsolved_fact (bad_table x) = absurd (x.bad right.rules)
   unsolved_fact (no_room x) = absurd (x.short roomy)
-  unsolved_fact (has_no_labelling {p} x) = record { answer = Assigned.Refused (no_labelling p); is = refl; told = book whole (unlabelled x.unlabelled) }
+  unsolved_fact (has_no_labelling {p} x) = record { answer = Err (no_labelling p); is = refl; told = book whole (unlabelled x.unlabelled) }
 
   solved_fact : h.items * name_room ≤ length before.items → {k : ℕ} {labels : Buffers} → SolveSays h (read_text l).words before.labels (success 0 (k ∷ [])) labels
       → Fact l (lent (items_over h (read_text l).names before.items) labels) (said_head h)
-  solved_fact fits (writes_labels x) = record { answer = Assigned.Labelled h; is = refl; told = labelled_as l whole before fits x }
+  solved_fact fits (writes_labels x) = record { answer = Ok h; is = refl; told = labelled_as l whole before fits x }
 
   book_fact : {s : Said} {after : Lent} → BookSays h (read_text l).names (read_text l).words before s after → Fact l after s
   book_fact (short_items short) = absurd (omega (arith, room.items, right.items.size))
@@ -69,11 +69,11 @@ module _ (l : List ℕ) {h : Head} (whole : read_whole l ≡ ReadBook.Book h) {b
   book_fact (solved fits x) = solved_fact fits x
 
 fact : {l : List ℕ} {before : Lent} {s : Said} {after : Lent} → AssignSays l before s after → WholeLent before → Fact l after s
-fact (assigning.unread {r} e) room = record { answer = Assigned.Refused r; is = refl; told = unread e }
+fact (assigning.unread {r} e) room = record { answer = Err r; is = refl; told = unread e }
 fact {l} (assigning.read e x) room = book_fact l e room x
 
 -- What each answer tells.
-pub told_by : {l : List ℕ} {before : Lent} {a : Assigned} {after : Lent} → AssignSays l before (said_assigned a) after → WholeLent before → {b : Assigned} → a ≡ b
+pub told_by : {l : List ℕ} {before : Lent} {a : Result Head Refusal} {after : Lent} → AssignSays l before (said_assigned a) after → WholeLent before → {b : Result Head Refusal} → a ≡ b
     → Told l after b
 told_by {l} {a = a} {after} says room {b} e =
     let f = fact says room in

@@ -5,6 +5,8 @@ use mathlib.Core.List.{List, [], ◌∷◌}
 use Prim.Native.Nat.{ℕ}
 use native.Mathlib.Omega.{arith}
 use lib.ListN.{length}
+use Rattle.reader.specs.Lines.{ReadBook}
+use Rattle.std.specs.Prelude.{Result, Ok, Err}
 use Rattle.laws.specs.Over.{over}
 use Rattle.meaning.proofs.Demands.{wanted_unique, refused_unique, refused_unlabelled}
 use Rattle.refusals.specs.Said.{Said, success}
@@ -14,11 +16,9 @@ use Rattle.rules.specs.Table.{book_of}
 use Rattle.accepts.specs.Accepted.{TableAccepted}
 use Rattle.accepts.proofs.Inside.{table_inside}
 use Rattle.reader.specs.Reading.{read_text}
-use Rattle.reader.specs.declared.ReadBook.{ReadBook}
 use Rattle.reader.proofs.Unique.{same_head}
 use Rattle.reader.proofs.Books.{read_tables}
 use Rattle.writer.specs.Writing.{said_written}
-use Rattle.writer.specs.declared.Written.{Written}
 use Rattle.writer.proofs.Unique.{Same, written_told}
 use Rattle.answers.specs.Answering.{refusal_text, no_labelling, BookPrints, unlabelled, labelled, AnswerSays, unread, book, RoutineSays, no_room, written}
 use Rattle.answers.proofs.Told.{labels_text_same}
@@ -31,10 +31,10 @@ book_unique {h} {t} {w} a (labelled levels marks f) (unlabelled q) = absurd (ref
 book_unique {h} {t} {w} a (labelled levels marks f) (labelled levels' marks' g) =
     labels_text_same t t h.items levels marks levels' marks' (λ i s. refl) (wanted_unique (book_of h w) (table_inside a) f g)
 
-same_refusal : {x : ReadBook} {r s : Refusal} → x ≡ ReadBook.Refused r → x ≡ ReadBook.Refused s → r ≡ s
+same_refusal : {x : ReadBook} {r s : Refusal} → x ≡ Err r → x ≡ Err s → r ≡ s
 same_refusal e f = let same = sym e ∙ f in cc
 
-not_both : {x : ReadBook} {r : Refusal} {h : Head} → x ≡ ReadBook.Refused r → x ≡ ReadBook.Book h → ⊥
+not_both : {x : ReadBook} {r : Refusal} {h : Head} → x ≡ Err r → x ≡ Ok h → ⊥
 not_both e f = let same = sym e ∙ f in let never : ◌≡◌ {A = ℕ} 0 1 = cc in omega arith
 
 -- For each text one text is printed.
@@ -53,5 +53,5 @@ says_unique {out = out} (written p h) (written q g) =
     record { answer = ap (λ (x : List ℕ). success 0 (length x ∷ [])) (answer_unique p q); buffer = ap (over out 0) (answer_unique p q) }
 
 -- Any two results that the routine allows are equal: the answer, and the content of the buffer.
-pub routine_unique : {l out : List ℕ} {a b : Written} {d e : List ℕ} → RoutineSays l out (said_written a) d → RoutineSays l out (said_written b) e → Same a b d e
+pub routine_unique : {l out : List ℕ} {a b : Result ℕ Refusal} {d e : List ℕ} → RoutineSays l out (said_written a) d → RoutineSays l out (said_written b) e → Same a b d e
 routine_unique p q = let same = says_unique p q in record { answer = written_told same.answer; buffer = same.buffer }

@@ -1,6 +1,6 @@
 -- "The labelling program": the text that it prints for a text that it reads, and what the routine that makes it answers.
 -- Assumes nothing.
-use Rattle.std.specs.Prelude.{◌≡◌, List, [], ◌∷◌, ◌++◌, ℕ, ◌≤◌, ◌<◌, length}
+use Rattle.std.specs.Prelude.{◌≡◌, List, [], ◌∷◌, ◌++◌, ℕ, ◌≤◌, ◌<◌, length, Ok, Err}
 use Rattle.laws.specs.Over.{over}
 use Rattle.meaning.specs.Classes.{classes, class_parts}
 use Rattle.meaning.specs.Labelling.{Wanted}
@@ -17,7 +17,6 @@ use Rattle.keys.specs.Keys.{key_text, refused_key, at_key}
 use Rattle.keys.specs.declared.Key.{Key}
 use Rattle.tokens.specs.Tokens.{count_text}
 use Rattle.reader.specs.Reading.{read_text, read_whole}
-use Rattle.reader.specs.declared.ReadBook.{ReadBook}
 use Rattle.writer.specs.Texts.{labels_text}
 
 -- A line of a key, with its `=`, and a count.
@@ -41,12 +40,12 @@ pub data BookPrints (h : Head) (t w : List ℕ) : List ℕ → Type 0 where
 
 -- What is printed for a text: the refusal of reading, or what is printed of the book that was read.
 pub data AnswerSays (l : List ℕ) : List ℕ → Type 0 where
-  unread : {r : Refusal} → read_whole l ≡ ReadBook.Refused r → AnswerSays l (refusal_text r)
-  book : {h : Head} {x : List ℕ} → read_whole l ≡ ReadBook.Book h → BookPrints h (read_text l).names (read_text l).words x → AnswerSays l x
+  unread : {r : Refusal} → read_whole l ≡ Err r → AnswerSays l (refusal_text r)
+  book : {h : Head} {x : List ℕ} → read_whole l ≡ Ok h → BookPrints h (read_text l).names (read_text l).words x → AnswerSays l x
 
 -- The text x that is printed for l is the labelling of the book that l is read as, under the head h: its items with the wanted labels.
 pub record PrintsLabels (l x : List ℕ) (h : Head) (levels marks : List ℕ) : Type 0 where
-  pub whole : read_whole l ≡ ReadBook.Book h
+  pub whole : read_whole l ≡ Ok h
   pub wanted : Wanted classes (book_of h (read_text l).words) (labels_in levels marks)
   pub text : x ≡ labels_text (read_text l).names h.items levels marks
 

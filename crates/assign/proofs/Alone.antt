@@ -4,15 +4,14 @@
 use mathlib.Core.Path.{◌≡◌}
 use mathlib.Core.List.{List}
 use Prim.Native.Nat.{ℕ, ◌<◌}
+use Rattle.std.specs.Prelude.{Ok}
 use Rattle.classes.specs.Parts.{part_count}
 use Rattle.meaning.specs.Classes.{ClassesAgree}
 use Rattle.refusals.specs.Said.{Said, success, refused}
 use Rattle.rules.specs.declared.Head.{Head}
-use Rattle.reader.specs.declared.ReadBook.{ReadBook}
 use Rattle.reader.specs.Reading.{read_text, read_whole}
 use Rattle.reader.specs.Agreeing.{TextsAgree}
 use Rattle.reader.proofs.Agreeing.{texts_agree}
-use Rattle.solver.specs.declared.Solved.{Solved}
 use Rattle.solver.specs.Solving.{said_solved, labels_of, SolveSays}
 use Rattle.solver.proofs.Alone.{solve_one_part_alone}
 use Rattle.assign.specs.Assigning.{said_head, Lent, BookSays, short_items, unsolved, solved, AssignSays, unread, read}
@@ -20,15 +19,15 @@ use Rattle.assign.proofs.Unique.{head_of}
 
 -- An answer with labels: the text is read as the book under the head h, and solving labels it.
 record Solves (l : List ℕ) (before : Lent) (h : Head) (after : Lent) : Type 0 where
-  whole : read_whole l ≡ ReadBook.Book h
+  whole : read_whole l ≡ Ok h
   count : ℕ
-  labels : SolveSays h (read_text l).words before.labels (said_solved (Solved.Labelled count)) after.labels
+  labels : SolveSays h (read_text l).words before.labels (said_solved (Ok count)) after.labels
 
 abbrev SaysSolves : List ℕ → Lent → Said → Lent → Type 0
 SaysSolves l before (success c x) after = Solves l before (head_of x) after
 SaysSolves l before (refused n p) after = Unit
 
-book_solves : (l : List ℕ) {h : Head} → read_whole l ≡ ReadBook.Book h → {before : Lent} {s : Said} {after : Lent}
+book_solves : (l : List ℕ) {h : Head} → read_whole l ≡ Ok h → {before : Lent} {s : Said} {after : Lent}
     → BookSays h (read_text l).names (read_text l).words before s after → SaysSolves l before s after
 book_solves l e (short_items s) = tt
 book_solves l e (unsolved room x) = tt

@@ -9,6 +9,8 @@ use native.Mathlib.Decide.{dec_le}
 use native.Mathlib.Nat.{zero-add}
 use native.Mathlib.Omega.{arith}
 use lib.ListN.{length, get_or}
+use Rattle.reader.specs.Lines.{ReadBook}
+use Rattle.std.specs.Prelude.{Err, Ok}
 use Rattle.laws.specs.Over.{over}
 use Rattle.laws.proofs.Buffers.{over_inside, over_behind}
 use Rattle.laws.proofs.Over.{over_length}
@@ -30,15 +32,13 @@ use Rattle.rules.specs.Table.{book_of}
 use Rattle.accepts.specs.Accepted.{TableAccepted}
 use Rattle.accepts.proofs.Inside.{table_inside}
 use Rattle.reader.specs.Reading.{read_text, read_whole}
-use Rattle.reader.specs.declared.ReadBook.{ReadBook}
 use Rattle.reader.proofs.Books.{read_tables}
 use Rattle.solver.specs.Solving.{Buffers, held, labels_of, RestKept, SolveSays, no_room, has_no_labelling, writes_labels}
-use Rattle.assign.specs.declared.Assigned.{Assigned}
 use Rattle.assign.specs.Assigning.{said_head, said_assigned, Lent, short_items, unsolved, solved, AssignSays, unread, read}
 
 -- An answer: a refusal, or labels.
 pub data AssignAnswered (l : List ℕ) (before : Lent) : Type 0 where
-  refuses_book : (r : Refusal) {after : Lent} → AssignSays l before (said_assigned (Assigned.Refused r)) after → AssignAnswered l before
+  refuses_book : (r : Refusal) {after : Lent} → AssignSays l before (said_assigned (Err r)) after → AssignAnswered l before
   labels_book : {h : Head} {after : Lent} → AssignSays l before (said_head h) after → AssignAnswered l before
 
 -- The first n values of a function over the front of a buffer.
@@ -91,7 +91,7 @@ room_decided n levels marks = by (dec_le n (length levels)) (dec_le n (length ma
     by (no a) b = no (λ r. a r.for_levels)
 
 -- What is said of a book that was read.
-module _ (l : List ℕ) (before : Lent) {h : Head} (e : read_whole l ≡ ReadBook.Book h) where
+module _ (l : List ℕ) (before : Lent) {h : Head} (e : read_whole l ≡ Ok h) where
   ok : TableAccepted h (read_text l).words
   ok = (read_tables l e).rules
 
@@ -112,6 +112,6 @@ pub assign_answered : (l : List ℕ) (before : Lent) → AssignAnswered l before
 assign_answered l before = by (read_whole l) refl
   where
     by : (x : ReadBook) → read_whole l ≡ x → AssignAnswered l before
-    by (ReadBook.Refused r) e = refuses_book r (unread e)
-    by (ReadBook.Book h) e =
+    by (Err r) e = refuses_book r (unread e)
+    by (Ok h) e =
         by_room l before e (dec_le (h.items * name_room) (length before.items)) (room_decided h.items before.labels.levels before.labels.marks)

@@ -7,6 +7,7 @@ use Prim.Native.Nat.{ℕ, ◌*◌, ◌≤◌, ◌<◌}
 use native.Mathlib.Omega.{arith}
 use lib.ListN.{length, take}
 use lib.Seq.{length-take-le}
+use Rattle.std.specs.Prelude.{Ok}
 use Rattle.laws.specs.First.{AllBelow}
 use Rattle.laws.proofs.Buffers.{front_over}
 use Rattle.meaning.specs.Classes.{classes}
@@ -20,7 +21,6 @@ use Rattle.rules.specs.Table.{book_of}
 use Rattle.accepts.specs.Tables.{Tables, SameTables}
 use Rattle.accepts.proofs.Counted.{tables_counted, name_same}
 use Rattle.reader.specs.Reading.{read_text, read_whole}
-use Rattle.reader.specs.declared.ReadBook.{ReadBook}
 use Rattle.reader.proofs.Books.{read_tables}
 use Rattle.solver.specs.Solving.{Buffers, labels_of, WritesLabels, writes_labels}
 use Rattle.assign.specs.Assigning.{said_head, Lent, lent, items_over, short_items, unsolved, solved, AssignSays, unread, read}
@@ -28,7 +28,7 @@ use Rattle.assign.proofs.Unique.{head_of}
 
 -- The book that was read has its names and its wanted labels in the buffers.
 pub record LabelledAs (l : List ℕ) (h : Head) (b : Lent) : Type 0 where
-  pub whole : read_whole l ≡ ReadBook.Book h
+  pub whole : read_whole l ≡ Ok h
   pub items : ItemsOk b.items h.items
   pub names : (i : ℕ) → i < h.items → name_of b.items i ≡ name_of (read_text l).names i
   pub room : Room h.items b.labels.levels b.labels.marks
@@ -38,7 +38,7 @@ pub record LabelledAs (l : List ℕ) (h : Head) (b : Lent) : Type 0 where
 pub levels_in_range : {l : List ℕ} {h : Head} {b : Lent} → LabelledAs l h b → AllBelow (LevelInRange b.labels.levels) h.items
 levels_in_range x = record { each = λ i s. record { most = (x.wanted.labelling.labels i s).level } }
 
-module _ (l : List ℕ) {h : Head} (whole : read_whole l ≡ ReadBook.Book h) (before : Lent) (fits : h.items * name_room ≤ length before.items) where
+module _ (l : List ℕ) {h : Head} (whole : read_whole l ≡ Ok h) (before : Lent) (fits : h.items * name_room ≤ length before.items) where
   right : Tables h (read_text l).names (read_text l).words
   right = read_tables l whole
 

@@ -1,24 +1,22 @@
 -- From the text of a rulebook to its items and their labels: what an answer says, and what is then in the lent buffers.
 -- Assumes nothing.
-use Rattle.std.specs.Prelude.{◌≡◌, List, [], ◌∷◌, ℕ, ◌*◌, ◌≤◌, ◌<◌, length, take}
+use Rattle.std.specs.Prelude.{◌≡◌, List, [], ◌∷◌, ℕ, ◌*◌, ◌≤◌, ◌<◌, length, take, Result, Ok, Err}
 use Rattle.laws.specs.Over.{over}
 use Rattle.refusals.specs.declared.Fault.{Fault}
 use Rattle.refusals.specs.declared.Refusal.{Refusal}
 use Rattle.refusals.specs.Said.{Said, success, refused, refused_by, said_refusal}
 use Rattle.items.specs.Names.{name_room}
 use Rattle.rules.specs.declared.Head.{Head}
-use Rattle.reader.specs.declared.ReadBook.{ReadBook}
 use Rattle.reader.specs.Reading.{read_text, read_whole}
 use Rattle.solver.specs.Solving.{Buffers, SolveSays}
-use Rattle.assign.specs.declared.Assigned.{Assigned}
 
 -- A book's counts of items and of rules, or a refusal.
 abbrev pub said_head : Head → Said
 said_head h = success 0 (h.items ∷ h.rules ∷ [])
 
-abbrev pub said_assigned : Assigned → Said
-said_assigned (Assigned.Labelled h) = said_head h
-said_assigned (Assigned.Refused r) = said_refusal r
+abbrev pub said_assigned : Result Head Refusal → Said
+said_assigned (Ok h) = said_head h
+said_assigned (Err r) = said_refusal r
 
 -- The lent items and labels, before and after.
 pub record Lent : Type 0 where
@@ -43,6 +41,6 @@ pub data BookSays (h : Head) (t w : List ℕ) (before : Lent) : Said → Lent �
 
 -- The promise of `assign`: what reading refuses, or what is said of the book that was read.
 pub data AssignSays (l : List ℕ) (before : Lent) : Said → Lent → Type 0 where
-  unread : {r : Refusal} → read_whole l ≡ ReadBook.Refused r → AssignSays l before (said_refusal r) before
-  read : {h : Head} {s : Said} {after : Lent} → read_whole l ≡ ReadBook.Book h → BookSays h (read_text l).names (read_text l).words before s after →
+  unread : {r : Refusal} → read_whole l ≡ Err r → AssignSays l before (said_refusal r) before
+  read : {h : Head} {s : Said} {after : Lent} → read_whole l ≡ Ok h → BookSays h (read_text l).names (read_text l).words before s after →
       AssignSays l before s after

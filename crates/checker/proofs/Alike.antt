@@ -5,6 +5,8 @@ use mathlib.Core.List.{List}
 use Prim.Native.Nat.{ℕ, zero, suc, ◌+◌, ◌*◌, ◌≤◌, ◌<◌}
 use native.Mathlib.Omega.{arith}
 use lib.ListN.{length}
+use Rattle.std.specs.Prelude.{Option, Result}
+use Rattle.refusals.specs.declared.Refusal.{Refusal}
 use Rattle.laws.specs.First.{FirstFailing}
 use Rattle.refusals.specs.Said.{Said}
 use Rattle.rules.specs.declared.Head.{Head}
@@ -12,7 +14,6 @@ use Rattle.rules.specs.declared.Rule.{Rule}
 use Rattle.rules.specs.Table.{rule_words, rule_at}
 use Rattle.accepts.specs.Accepted.{TableAccepted}
 use Rattle.accepts.proofs.Counted.{accepted_alike}
-use Rattle.checker.specs.declared.Checked.{Checked}
 use Rattle.checker.specs.Answer.{said_checked}
 use Rattle.checker.specs.Checking.{RuleMet, CheckSays, bad_table, no_room, bad_label, first_unmet, all_met}
 use Rattle.checker.specs.List.{list_at, ListAccepted, SameAsList, decoded_from}
@@ -57,7 +58,7 @@ module _ {h : Head} {t : List ℕ} {rules : List Rule} (same : SameAsList h t ru
   listed x = record { room = same.listed x.room; accepted = accepted_alike same.each x.accepted }
 
   -- "with equal answers": on equal rules `check` and `check_list` answer the same.
-  pub check_alike : {levels marks : List ℕ} {a b : Checked} → CheckSays (TableAccepted h t) h (rule_at t) levels marks (said_checked a)
+  pub check_alike : {levels marks : List ℕ} {a b : Result (Option ℕ) Refusal} → CheckSays (TableAccepted h t) h (rule_at t) levels marks (said_checked a)
       → CheckSays (ListAccepted h rules) h (list_at rules) levels marks (said_checked b) → a ≡ b
   check_alike x y = check_unique (says_alike same.each listed tabled x) y
 

@@ -5,27 +5,27 @@ use mathlib.Core.Path.{◌≡◌, refl, ap}
 use mathlib.Core.List.{List, [], ◌∷◌}
 use Prim.Native.Nat.{ℕ, zero, suc}
 use lib.ListN.{get_or}
+use Rattle.std.specs.Prelude.{Option, Some, None, Result, Ok, Err}
+use Rattle.refusals.specs.declared.Refusal.{Refusal}
 use Rattle.laws.proofs.First.{first_not_all, first_unique}
 use Rattle.refusals.specs.declared.Fault.{Fault}
 use Rattle.refusals.specs.Said.{Said, success, refused, refused_by}
 use Rattle.refusals.proofs.Said.{said_injective, refusal_of, refusal_back}
 use Rattle.rules.specs.declared.Head.{Head}
 use Rattle.rules.specs.declared.Rule.{Rule}
-use Rattle.checker.specs.declared.Checked.{Checked}
-use Rattle.checker.specs.declared.Checked.TheVariants.{Met, Unmet, Refused}
 use Rattle.checker.specs.Answer.{said_checked}
 use Rattle.checker.specs.Checking.{CheckSays, bad_table, no_room, bad_label, first_unmet, all_met}
 
 -- An answer is found again from what it says.
-abbrev checked_of : Said → Checked
-checked_of (success zero vs) = Met
-checked_of (success (suc k) vs) = Unmet (get_or vs 0 0)
-checked_of (refused k p) = Refused (refusal_of k p)
+abbrev checked_of : Said → Result (Option ℕ) Refusal
+checked_of (success zero vs) = Ok None
+checked_of (success (suc k) vs) = Ok (Some (get_or vs 0 0))
+checked_of (refused k p) = Err (refusal_of k p)
 
-checked_back : (a : Checked) → checked_of (said_checked a) ≡ a
-checked_back Met = refl
-checked_back (Unmet r) = refl
-checked_back (Refused r) = ap Refused (refusal_back r)
+checked_back : (a : Result (Option ℕ) Refusal) → checked_of (said_checked a) ≡ a
+checked_back (Ok None) = refl
+checked_back (Ok (Some r)) = refl
+checked_back (Err r) = ap Err (refusal_back r)
 
 module _ {Accepted : Type 0} {h : Head} {at : ℕ → Rule} {levels marks : List ℕ} where
   -- Of any rules and labels only one thing is said.
@@ -57,5 +57,5 @@ module _ {Accepted : Type 0} {h : Head} {at : ℕ → Rule} {levels marks : List
   says_unique (all_met x) (all_met y) = refl
 
   -- Any two answers that checking allows are equal.
-  pub check_unique : {a b : Checked} → CheckSays Accepted h at levels marks (said_checked a) → CheckSays Accepted h at levels marks (said_checked b) → a ≡ b
+  pub check_unique : {a b : Result (Option ℕ) Refusal} → CheckSays Accepted h at levels marks (said_checked a) → CheckSays Accepted h at levels marks (said_checked b) → a ≡ b
   check_unique x y = said_injective said_checked checked_of checked_back (says_unique x y)

@@ -10,28 +10,28 @@ use native.Mathlib.Omega.{arith}
 use borrow.Author.Tests.{not-true, not-false}
 use lib.Dec.{leb}
 use lib.ListN.{length}
+use Rattle.std.specs.Prelude.{Option, Some, None}
 use Rattle.laws.specs.Tells.{Tells}
 use Rattle.laws.proofs.Bools.{true_not_false}
 use Rattle.laws.proofs.Tells.{tells_unique, tells_no, tells_yes, tells_leb, told_no, told_yes}
-use Rattle.laws.proofs.First.{all_none}
+use Rattle.laws.proofs.First.{all_none, all_more}
 use Rattle.meaning.specs.Rules.{Met}
 use Rattle.meaning.specs.Classes.{classes}
 use Rattle.refusals.specs.declared.Fault.{Fault}
-use Rattle.refusals.specs.Said.{Said}
+use Rattle.refusals.specs.declared.Refusal.{Refusal}
+use Rattle.refusals.specs.Said.{Said, refusal_at, said_refusal}
 use Rattle.refusals.specs.Sizes.{most_items, most_rules}
 use Rattle.labels.specs.Labels.{labels_in}
 use Rattle.rules.specs.declared.Head.{Head}
 use Rattle.rules.specs.declared.Rule.{Rule}
 use Rattle.rules.specs.Record.{meaning_of}
 use Rattle.accepts.specs.Accepted.{RuleAccepted, Standing}
-use Rattle.checker.specs.declared.Checked.{Checked}
 use Rattle.checker.specs.declared.list.Seen.{Seen}
-use Rattle.checker.specs.Answer.{said_checked}
 use Rattle.checker.specs.Checking.{bad_table}
 use Rattle.checker.specs.List.{list_at, ListAccepted}
-use Rattle.checker.specs.InnerJudging.{refusal_at, Judges}
+use Rattle.checker.specs.InnerJudging.{Judges}
 use Rattle.checker.specs.InnerWalking.{Sizes, Count, up_to, InOrder, kind_before, SeenSoFar, Starts, Stands, UnmetOn, GoesOn, Concludes}
-use Rattle.checker.proofs.Meets.{all_met_more, unmet_here, sought_tells}
+use Rattle.checker.proofs.Meets.{rule_met, rule_unmet}
 use Rattle.checker.proofs.Says.{judges_accepted}
 
 -- The sizes, and how many rules are looked at.
@@ -81,14 +81,8 @@ module _ (h : Head) {at : ℕ → Rule} where
   order_last {i} p = (p.each i (omega arith)).accepted
 
 -- What is known before the first rule.
-pub starts_so : Starts (record { good = true; kind = 0; unmet = most_rules })
-starts_so = record {
-  start = λ h at levels marks. record {
-    good = tells_yes all_none;
-    kind = refl;
-    unmet = record { found = λ s. absurd (omega arith); none = λ s. all_none };
-  };
-}
+pub starts_so : Starts (record { good = true; kind = 0; unmet = None })
+starts_so = record { start = λ h at levels marks. record { good = tells_yes all_none; kind = refl; unmet = all_none } }
 
 -- Whether a rule may come behind those before it.
 module _ (before : Seen) (rule : Rule) (n : ℕ) where
@@ -105,26 +99,16 @@ module _ (before : Seen) (rule : Rule) (n : ℕ) where
   }
 
 -- The first rule that is not met: an earlier one, this one, or none.
-module _ {before : ℕ} {rule : Rule} {i : ℕ} {levels marks : List ℕ} where
-  pub unmet_earlier : before < i → UnmetOn before rule i levels marks before
-  unmet_earlier s = record {
-    on = λ at here few x. record {
-      found = λ t. record { below = t; before = (x.found s).before; fails = (x.found s).fails };
-      none = λ t. absurd (omega arith);
-    };
-  }
+module _ {rule : Rule} {i : ℕ} {levels marks : List ℕ} where
+  pub unmet_earlier : {r : ℕ} → UnmetOn (Some r) rule i levels marks (Some r)
+  unmet_earlier = record { on = λ at here x. record { below = omega (arith, x.below); before = x.before; fails = x.fails } }
 
-  module _ (s : i ≤ before) {b : Bool} (told : Tells (Met classes (meaning_of rule) (labels_in levels marks)) b) where
-    pub unmet_now : not b ≡ true → UnmetOn before rule i levels marks i
-    unmet_now e = record { on = λ at here few x. sought_tells (unmet_here here told (omega arith) (x.none s) e) }
+  module _ {b : Bool} (told : Tells (Met classes (meaning_of rule) (labels_in levels marks)) b) where
+    pub unmet_now : not b ≡ true → UnmetOn None rule i levels marks (Some i)
+    unmet_now e = record { on = λ at here x. record { below = omega arith; before = x; fails = rule_unmet here told e } }
 
-    pub unmet_none : not b ≡ false → UnmetOn before rule i levels marks most_rules
-    unmet_none e = record {
-      on = λ at here few x. record {
-        found = λ t. absurd (omega arith);
-        none = λ t. rw (← add-one) (all_met_more here told (x.none s) e);
-      };
-    }
+    pub unmet_none : not b ≡ false → UnmetOn None rule i levels marks None
+    unmet_none e = record { on = λ at here x. rw (← add-one) (all_more x (rule_met here told e)) }
 
 -- What is known after one rule more.
 module _ {before : Seen} {rule : Rule} {i : ℕ} {h : Head} {levels marks : List ℕ} where
@@ -139,22 +123,22 @@ module _ {before : Seen} {rule : Rule} {i : ℕ} {h : Head} {levels marks : List
       accepted = subst (RuleAccepted h.items) (sym here) (order_last h p);
     }
 
-  pub goes_on : {g : Bool} {u : ℕ} → Tells (Stands before rule h.items) g → UnmetOn before.unmet rule i levels marks u
+  pub goes_on : {g : Bool} {u : Option ℕ} → Tells (Stands before rule h.items) g → UnmetOn before.unmet rule i levels marks u
       → GoesOn before rule i h levels marks (record { good = g; kind = rule.kind; unmet = u })
   goes_on t s = record {
-    on = λ at here few x. record {
+    on = λ at here x. record {
       good = record {
         holds = λ e. order_on here x (t.holds e);
         fails = λ e p. t.fails e (order_back here x p);
       };
       kind = rw here refl;
-      unmet = s.on at here few x.unmet;
+      unmet = s.on at here x.unmet;
     };
   }
 
 -- The end of the walk: the sizes are wrong, the rules are not accepted, or they are.
 module _ {seen : Seen} {len : ℕ} {h : Head} {levels marks : List ℕ} {b : Bool} (told : Tells (Sizes len h) b) where
-  pub concludes_sizes : not b ≡ true → {r : Checked} → r ≡ refusal_at Fault.BadTable 0 → Concludes seen len h levels marks (said_checked r)
+  pub concludes_sizes : not b ≡ true → {r : Refusal} → r ≡ refusal_at Fault.BadTable 0 → Concludes seen len h levels marks (said_refusal r)
   concludes_sizes bad e = rw e (record {
     says = λ rules l count x. bad_table (λ a. told_no told bad (record { items = a.accepted.items; rules = a.accepted.rules; room = rw (← l) a.room }));
   })
@@ -164,7 +148,7 @@ module _ {seen : Seen} {len : ℕ} {h : Head} {levels marks : List ℕ} {b : Boo
     all_seen : {at : ℕ → Rule} {c : ℕ} → Count len h c → SeenSoFar h at levels marks c seen → SeenSoFar h at levels marks h.rules seen
     all_seen {at} count x = subst (λ k. SeenSoFar h at levels marks k seen) (count.all (told_yes told sizes)) x
 
-    pub concludes_order : not seen.good ≡ true → {r : Checked} → r ≡ refusal_at Fault.BadTable 0 → Concludes seen len h levels marks (said_checked r)
+    pub concludes_order : not seen.good ≡ true → {r : Refusal} → r ≡ refusal_at Fault.BadTable 0 → Concludes seen len h levels marks (said_refusal r)
     concludes_order bad e = rw e (record {
       says = λ rules l count x. bad_table (λ a. told_no (all_seen count x).good bad (record { each = a.accepted.each }));
     })

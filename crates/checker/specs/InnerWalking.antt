@@ -1,6 +1,6 @@
 -- What the walk over a list knows of its rules: before the first, after each, and at the end. Rules are given by number, `at`.
 -- Assumes nothing.
-use Rattle.std.specs.Prelude.{◌≡◌, true, List, ℕ, zero, suc, ◌≤◌, ◌<◌, length}
+use Rattle.std.specs.Prelude.{◌≡◌, true, List, ℕ, zero, suc, ◌≤◌, length, Option}
 use Rattle.laws.specs.Tells.{Tells}
 use Rattle.laws.specs.First.{AllBelow}
 use Rattle.refusals.specs.Said.{Said}
@@ -55,12 +55,12 @@ pub record Stands (before : Seen) (rule : Rule) (n : ℕ) : Type 0 where
   pub accepted : RuleAccepted n rule
 
 -- From which of the rules before rule i is the first that is not met to which of those up to it.
-pub record UnmetOn (before : ℕ) (rule : Rule) (i : ℕ) (levels marks : List ℕ) (after : ℕ) : Type 0 where
-  pub on : (at : ℕ → Rule) → rule ≡ at i → i < most_rules → TellsUnmet at levels marks i before → TellsUnmet at levels marks (suc i) after
+pub record UnmetOn (before : Option ℕ) (rule : Rule) (i : ℕ) (levels marks : List ℕ) (after : Option ℕ) : Type 0 where
+  pub on : (at : ℕ → Rule) → rule ≡ at i → TellsUnmet at levels marks i before → TellsUnmet at levels marks (suc i) after
 
 -- From what is known before rule i to what is known after it.
 pub record GoesOn (before : Seen) (rule : Rule) (i : ℕ) (h : Head) (levels marks : List ℕ) (after : Seen) : Type 0 where
-  pub on : (at : ℕ → Rule) → rule ≡ at i → i < most_rules → SeenSoFar h at levels marks i before → SeenSoFar h at levels marks (suc i) after
+  pub on : (at : ℕ → Rule) → rule ≡ at i → SeenSoFar h at levels marks i before → SeenSoFar h at levels marks (suc i) after
 
 -- From what is known of the rules that were looked at to what checking says of the list.
 pub record Concludes (seen : Seen) (len : ℕ) (h : Head) (levels marks : List ℕ) (s : Said) : Type 0 where

@@ -1,11 +1,11 @@
 // Checking: whether labels meet one rule, and the first rule of a table or of a list that they do not meet.
 //
-// Labels are lent as two slices, levels and marks. Nothing is written, and nothing is required.
+// Nothing is written, and nothing is required.
 #![tactic(auto)]
 
 pub mod list;
 
-ghost use Rattle.std.specs.Prelude.{◌≡◌};
+ghost use Rattle.std.specs.Prelude.{◌<◌, IfSome, unwrap_or};
 ghost use Rattle.laws.specs.Tells.{Tells};
 ghost use Rattle.laws.specs.First.{Sought};
 ghost use Rattle.meaning.specs.Rules.{Met};
@@ -16,85 +16,64 @@ ghost use Rattle.rules.specs.Table.{rule_at};
 ghost use Rattle.accepts.specs.Accepted.{TableAccepted};
 ghost use Rattle.checker.specs.Answer.{said_checked};
 ghost use Rattle.checker.specs.Checking.{RuleMet, CheckSays};
-ghost use Rattle.checker.specs.InnerJudging.{refusal_at, Judges};
+ghost use Rattle.checker.specs.InnerJudging.{Judges};
 
-use labels::{first_bad, has_room};
+use labels::Labels;
 use refusals::{Fault, Refusal};
-use rules::{CAP, FLOOR, Head, Rule};
+use rules::{Head, Rule, RuleKind};
 
-// What checking answers: every rule is met, or the number of the first one that is not, from 0 in table order; or a refusal, which for a bad
-// label has the number of the item as its place.
-#[derive(Clone, Copy)]
-pub enum Checked {
-    Met,
-    Unmet(usize),
-    Refused(Refusal),
-}
-
-// BadTable where the table is not accepted under this head; NoRoom where there are fewer labels than items; BadLabel at the first of the items
-// whose level is over 15; else Unmet with the first of the rules that the labels do not meet, or Met.
-pub fn check(rules: &[u64], head: Head, levels: &[u64], marks: &[u64]) -> Checked
-    ensures { CheckSays (TableAccepted head rules.now) head (rule_at rules.now) levels.now marks.now (said_checked result) }
+// BadTable at 0 where the table is not accepted under this head; NoRoom at 0 where there are fewer labels than items; BadLabel at the first of the
+// items whose level is over 15; else the first rule in table order, from 0, that the labels do not meet, if there is one.
+pub fn check(rules: &[u64], head: Head, labels: Labels) -> Result<Option<usize>, Refusal>
+    ensures { CheckSays (TableAccepted head rules.now) head (rule_at rules.now) labels.entry.levels.now labels.entry.marks.now (said_checked result) }
 {
     if !accepts::rules_ok(rules, head) {
-        return refused(Fault::BadTable, 0);
+        return Err(Fault::BadTable.at(0));
     }
-    let unmet = first_unmet(rules, head.rules, levels, marks);
-    judged(unmet, head, levels, marks)
+    judged(first_unmet(rules, head.rules, labels), head, labels)
 }
 
-// What is answered of accepted rules, where the search for a rule that is not met told this number.
-pub(crate) fn judged(unmet: usize, head: Head, levels: &[u64], marks: &[u64]) -> Checked
-    ensures { Judges unmet head levels.now marks.now (said_checked result) }
+// What is answered of accepted rules, where the search for a rule that is not met told this.
+pub(crate) fn judged(
+    unmet: Option<usize>,
+    head: Head,
+    labels: Labels,
+) -> Result<Option<usize>, Refusal>
+    ensures { Judges unmet head labels.entry.levels.now labels.entry.marks.now (said_checked result) }
 {
-    if !has_room(levels, marks, head.items) {
-        return refused(Fault::NoRoom, 0);
+    if !labels.has_room(head.items) {
+        return Err(Fault::NoRoom.at(0));
     }
-    let bad = first_bad(levels, head.items);
-    if bad < head.items {
-        return refused(Fault::BadLabel, bad);
+    match labels.first_bad(head.items) {
+        Some(bad) => Err(Fault::BadLabel.at(bad as u64)),
+        None => Ok(unmet),
     }
-    if unmet < head.rules {
-        return Checked::Unmet(unmet);
-    }
-    Checked::Met
 }
 
-// The refusal for a fault at a place.
-pub(crate) fn refused(fault: Fault, place: usize) -> Checked
-    ensures { result ≡ refusal_at fault place }
+// Whether the labels meet a rule. An item past the end of the labels has the lowest class. A kind that is none of the three stands for a follow.
+pub(crate) fn met(rule: Rule, labels: Labels) -> bool
+    ensures { Tells (Met classes (meaning_of rule) (labels_in labels.entry.levels.now labels.entry.marks.now)) result }
 {
-    Checked::Refused(Refusal {
-        fault,
-        place: place as u64,
-    })
-}
-
-// Whether the labels meet a rule. An item past the end of the labels has the lowest class.
-pub(crate) fn met(rule: Rule, levels: &[u64], marks: &[u64]) -> bool
-    ensures { Tells (Met classes (meaning_of rule) (labels_in levels.now marks.now)) result }
-{
-    let first = labels::label_at(levels, marks, rule.left[0]);
-    if rule.kind == CAP {
-        return rule.class.covers(first);
-    }
-    let join = rules::left_join(rule, levels, marks);
-    if rule.kind == FLOOR {
-        return join.covers(rule.class);
-    }
-    join.covers(labels::label_at(levels, marks, rule.right))
-}
-
-// The first of the table's m rules that the labels do not meet, and m where they meet each.
-fn first_unmet(rules: &[u64], m: usize, levels: &[u64], marks: &[u64]) -> usize
-    ensures { Sought (RuleMet (rule_at rules.now) levels.now marks.now) m result }
-{
-    let mut r: usize = 0;
-    while r < m {
-        if !met(rules::rule_at(rules, r), levels, marks) {
-            return r;
+    match rule.kind() {
+        Some(RuleKind::Cap) => rule.class.covers(labels.label_at(rule.left[0])),
+        Some(RuleKind::Floor) => rules::left_join(rule, &labels).covers(rule.class),
+        Some(RuleKind::Follow) | None => {
+            rules::left_join(rule, &labels).covers(labels.label_at(rule.right))
         }
-        r += 1;
     }
-    m
+}
+
+// The first of the table's m rules that the labels do not meet, if there is one.
+fn first_unmet(rules: &[u64], m: usize, labels: Labels) -> Option<usize>
+    ensures sought { Sought (RuleMet (rule_at rules.now) labels.entry.levels.now labels.entry.marks.now) m (unwrap_or result m) }
+    ensures within { IfSome result (λ r. r < m) }
+{
+    (0..m).find(|r| !rule_met(rules, *r, labels))
+}
+
+// Whether the labels meet rule r of a table.
+fn rule_met(rules: &[u64], r: usize, labels: Labels) -> bool
+    ensures { Tells (RuleMet (rule_at rules.now) labels.entry.levels.now labels.entry.marks.now r) result }
+{
+    met(rules::rule_at(rules, r), labels)
 }

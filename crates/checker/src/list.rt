@@ -7,52 +7,49 @@ ghost use Rattle.checker.specs.Checking.{CheckSays};
 ghost use Rattle.checker.specs.List.{list_at, ListAccepted};
 ghost use Rattle.checker.specs.InnerWalking.{Sizes, Count, Starts, Stands, UnmetOn, GoesOn, Concludes};
 
-use super::{Checked, judged, met, refused};
-use refusals::{Fault, MOST_ITEMS, MOST_RULES};
+use super::{judged, met};
+use labels::Labels;
+use refusals::{Fault, MOST_ITEMS, MOST_RULES, Refusal};
 use rules::{Head, Rule};
 
-// What is known of the rules so far: whether they are accepted in this order, the kind of the last one, and the number of the first one that is
-// not met, or the most rules where each is met.
-#[derive(Clone, Copy)]
+// What is known of the rules so far: whether they are accepted in this order, the kind of the last one, and the first one that is not met, if
+// there is one. The kind stays a number: a record's may be any, and `rule_ok` answers no to an unknown one. The flag stays: no other field depends on it.
+#[derive(Clone, Copy, Debug, PartialEq, Eq)]
 pub(crate) struct Seen {
     pub good: bool,
     pub kind: u64,
-    pub unmet: usize,
+    pub unmet: Option<usize>,
 }
 
 // As `check`, of rules that are lent as records: BadTable also where the list is shorter than the head says.
-pub fn check_list(rules: &[Rule], head: Head, levels: &[u64], marks: &[u64]) -> Checked
-    ensures { CheckSays (ListAccepted head rules.now) head (list_at rules.now) levels.now marks.now (said_checked result) }
+pub fn check_list(rules: &[Rule], head: Head, labels: Labels) -> Result<Option<usize>, Refusal>
+    ensures { CheckSays (ListAccepted head rules.now) head (list_at rules.now) labels.entry.levels.now labels.entry.marks.now (said_checked result) }
 {
     let len = rules.len();
     let count = listed(len, head);
     let mut seen = nothing();
-    let mut i: usize = 0;
-    while i < count {
-        seen = next(seen, rules[i], i, head, levels, marks);
-        i += 1;
+    for (i, rule) in rules[..count].iter().enumerate() {
+        seen = next(seen, *rule, i, head, labels);
     }
-    answer(seen, len, head, levels, marks)
+    answer(seen, len, head, labels)
 }
 
 // As `check_list`, of rules that are passed by value.
-pub fn check_array(rules: [Rule; MOST_RULES], head: Head, levels: &[u64], marks: &[u64]) -> Checked
-    ensures { CheckSays (ListAccepted head rules) head (list_at rules) levels.now marks.now (said_checked result) }
+pub fn check_array(
+    rules: [Rule; MOST_RULES],
+    head: Head,
+    labels: Labels,
+) -> Result<Option<usize>, Refusal>
+    ensures { CheckSays (ListAccepted head rules) head (list_at rules) labels.entry.levels.now labels.entry.marks.now (said_checked result) }
 {
-    check_list(&rules, head, levels, marks)
+    check_list(&rules, head, labels)
 }
 
 // Whether a list of this length can hold the rules of a book with this head, and the head is not too large.
 fn sizes_ok(len: usize, head: Head) -> bool
     ensures { Tells (Sizes len head) result }
 {
-    if MOST_ITEMS < head.items {
-        return false;
-    }
-    if MOST_RULES < head.rules {
-        return false;
-    }
-    head.rules <= len
+    head.items <= MOST_ITEMS && head.rules <= MOST_RULES && head.rules <= len
 }
 
 // How many rules are looked at: none where the sizes are wrong.
@@ -69,18 +66,18 @@ fn nothing() -> Seen
     Seen {
         good: true,
         kind: 0,
-        unmet: MOST_RULES,
+        unmet: None,
     }
 }
 
 // What is known after rule i.
-fn next(seen: Seen, rule: Rule, i: usize, head: Head, levels: &[u64], marks: &[u64]) -> Seen
-    ensures { GoesOn seen rule i head levels.now marks.now result }
+fn next(seen: Seen, rule: Rule, i: usize, head: Head, labels: Labels) -> Seen
+    ensures { GoesOn seen rule i head labels.entry.levels.now labels.entry.marks.now result }
 {
     Seen {
         good: stands(seen, rule, head.items as u64),
         kind: rule.kind,
-        unmet: unmet_after(seen.unmet, rule, i, levels, marks),
+        unmet: unmet_after(seen.unmet, rule, i, labels),
     }
 }
 
@@ -88,37 +85,25 @@ fn next(seen: Seen, rule: Rule, i: usize, head: Head, levels: &[u64], marks: &[u
 fn stands(seen: Seen, rule: Rule, n: u64) -> bool
     ensures { Tells (Stands seen rule n) result }
 {
-    if !seen.good {
-        return false;
-    }
-    if rule.kind < seen.kind {
-        return false;
-    }
-    accepts::rule_ok(rule, n)
+    seen.good && seen.kind <= rule.kind && accepts::rule_ok(rule, n)
 }
 
-// The number of the first rule up to rule i that is not met, given that of the first before it.
-fn unmet_after(unmet: usize, rule: Rule, i: usize, levels: &[u64], marks: &[u64]) -> usize
-    ensures { UnmetOn unmet rule i levels.now marks.now result }
+// The first rule up to rule i that is not met, given the first before it.
+fn unmet_after(unmet: Option<usize>, rule: Rule, i: usize, labels: Labels) -> Option<usize>
+    ensures { UnmetOn unmet rule i labels.entry.levels.now labels.entry.marks.now result }
 {
-    if unmet < i {
-        return unmet;
+    match unmet {
+        None if !met(rule, labels) => Some(i),
+        _ => unmet,
     }
-    if !met(rule, levels, marks) {
-        return i;
-    }
-    MOST_RULES
 }
 
 // What is answered once the rules are looked at.
-fn answer(seen: Seen, len: usize, head: Head, levels: &[u64], marks: &[u64]) -> Checked
-    ensures { Concludes seen len head levels.now marks.now (said_checked result) }
+fn answer(seen: Seen, len: usize, head: Head, labels: Labels) -> Result<Option<usize>, Refusal>
+    ensures { Concludes seen len head labels.entry.levels.now labels.entry.marks.now (said_checked result) }
 {
-    if !sizes_ok(len, head) {
-        return refused(Fault::BadTable, 0);
+    if !sizes_ok(len, head) || !seen.good {
+        return Err(Fault::BadTable.at(0));
     }
-    if !seen.good {
-        return refused(Fault::BadTable, 0);
-    }
-    judged(seen.unmet, head, levels, marks)
+    judged(seen.unmet, head, labels)
 }

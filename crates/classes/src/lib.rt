@@ -4,7 +4,7 @@
 // refuses: a level over 15 is taken as the number it is.
 #![tactic(auto)]
 
-ghost use Rattle.std.specs.Prelude.{◌≡◌, min, max};
+ghost use Rattle.std.specs.Prelude.{◌≡◌};
 ghost use Rattle.laws.specs.Tells.{Tells};
 ghost use Rattle.classes.specs.Bits.{LowestOne};
 ghost use Rattle.classes.specs.Class.{Covers, HasMark, joined, common_of, lowest, highest, class_of};
@@ -12,7 +12,7 @@ ghost use Rattle.classes.specs.Class.{Covers, HasMark, joined, common_of, lowest
 // The highest level.
 pub const TOP_LEVEL: u64 = 15;
 
-#[derive(Clone, Copy)]
+#[derive(Clone, Copy, Debug, PartialEq, Eq)]
 pub struct Class {
     pub level: u64,
     pub marks: u64,
@@ -39,10 +39,7 @@ impl Class {
     pub fn covers(self, other: Class) -> bool
         ensures { Tells (Covers self other) result }
     {
-        if self.level < other.level {
-            return false;
-        }
-        other.marks & !self.marks == 0
+        other.level <= self.level && other.marks & !self.marks == 0
     }
 
     // The greater level, and every mark that either class has.
@@ -50,7 +47,7 @@ impl Class {
         ensures { result ≡ joined self other }
     {
         Class {
-            level: greater(self.level, other.level),
+            level: u64::max(self.level, other.level),
             marks: self.marks | other.marks,
         }
     }
@@ -60,7 +57,7 @@ impl Class {
         ensures { result ≡ common_of self other }
     {
         Class {
-            level: smaller(self.level, other.level),
+            level: u64::min(self.level, other.level),
             marks: self.marks & other.marks,
         }
     }
@@ -69,30 +66,15 @@ impl Class {
     pub fn has_mark(self, k: u64) -> bool
         ensures { Tells (HasMark self k) result }
     {
-        if 63 < k {
-            return false;
-        }
-        (self.marks >> k) % 2 == 1
+        k < 64 && (self.marks >> k) % 2 == 1
     }
 }
 
-// The number of the lowest set bit of a word of marks, and 64 where no bit is set.
+// The number of the lowest set bit of a word of marks, and 64 where no bit is set, as its promise `LowestOne` says.
 pub fn lowest_mark(word: u64) -> u64
     ensures { LowestOne 64 word result }
 {
     u64::trailing_zeros(word) as u64
-}
-
-fn greater(a: u64, b: u64) -> u64
-    ensures { result ≡ max a b }
-{
-    if a < b { b } else { a }
-}
-
-fn smaller(a: u64, b: u64) -> u64
-    ensures { result ≡ min a b }
-{
-    if a < b { a } else { b }
 }
 
 // The two constants are the lowest and the highest class of the definitions.

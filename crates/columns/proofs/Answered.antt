@@ -1,6 +1,7 @@
 -- There is an answer to every header: whether each name is an item and none is repeated is decided, and so is whether a class covers a label. It
 -- rests on that looking up a name computes, that names are lists of numbers, and that covering is `≤` in each part.
 -- Assumes nothing.
+use Rattle.std.specs.Prelude.{Some, None, Ok, Err}
 use mathlib.Core.Path.{◌≡◌, refl, sym, ap, subst, ◌∙◌}
 use mathlib.Core.Bool.{Bool, true, false, cond}
 use mathlib.Core.List.{List, [], ◌∷◌, map, List-discrete}
@@ -17,9 +18,8 @@ use Rattle.classes.specs.Class.{Covers}
 use Rattle.classes.specs.Parts.{part_count, part}
 use Rattle.classes.specs.declared.Class.{Class}
 use Rattle.classes.proofs.Parts.{covers_parts, parts_cover}
-use Rattle.items.specs.Lookup.{find_in}
+use Rattle.items.specs.Lookup.{Found, find_in}
 use Rattle.items.specs.Table.{ItemsOk}
-use Rattle.items.specs.declared.Found.{Found}
 use Rattle.labels.specs.Labels.{labels_in, LevelInRange, Room}
 use Rattle.rules.specs.declared.Head.{Head}
 use Rattle.refusals.specs.Said.{Said}
@@ -29,7 +29,6 @@ use Rattle.records.specs.Rows.{Row, line, bare, halved, cut, broken, row_of, Rec
 use Rattle.exports.specs.Names.{unquoted, name_in, IsItem, HeaderOk, KeepsCovered}
 use Rattle.exports.proofs.Lengths.{whole_holds}
 use Rattle.columns.specs.Columns.{said_kept, said_more, said_columns, header_at, HeaderSays, bad_header, more_header, bad_names, no_room, keeps, ColumnsSays, headed}
-use Rattle.columns.specs.declared.Columns.{Columns}
 use Rattle.columns.proofs.Waiting.{more_few}
 
 -- A statement that is decided of each number is decided of all below a bound.
@@ -65,9 +64,9 @@ module _ (t : List ℕ) (n : ℕ) where
   item_decided name = by (find_in t n name) refl
     where
       by : (x : Found) → find_in t n name ≡ x → Dec (IsItem t n name)
-      by (Found.At i) e = yes (record { item = i; found = e })
-      by Found.Absent e = no (λ k. let f = sym e ∙ k.found in let z : ◌≡◌ {A = ℕ} 0 1 = cc in omega arith)
-      by (Found.Refused r) e = no (λ k. let f = sym e ∙ k.found in let z : ◌≡◌ {A = ℕ} 0 1 = cc in omega arith)
+      by (Ok (Some i)) e = yes (record { item = i; found = e })
+      by (Ok None) e = no (λ k. let f = sym e ∙ k.found in let z : ◌≡◌ {A = ℕ} 0 1 = cc in omega arith)
+      by (Err r) e = no (λ k. let f = sym e ∙ k.found in let z : ◌≡◌ {A = ℕ} 0 1 = cc in omega arith)
 
   names_decided : (fs : List (List ℕ)) → Dec (HeaderOk t n fs)
   names_decided fs =
@@ -83,9 +82,9 @@ module _ (t : List ℕ) (n : ℕ) where
   -- The columns that are kept.
   module _ (labels : ℕ → Class) (reader : Class) where
     keeps_found : Found → Bool
-    keeps_found (Found.At i) = (answered (covers_decided reader (labels i))).0
-    keeps_found Found.Absent = false
-    keeps_found (Found.Refused r) = false
+    keeps_found (Ok (Some i)) = (answered (covers_decided reader (labels i))).0
+    keeps_found (Ok None) = false
+    keeps_found (Err r) = false
 
     keeps_field : List ℕ → Bool
     keeps_field f = keeps_found (find_in t n (unquoted f))
@@ -105,7 +104,7 @@ module _ (t : List ℕ) (n : ℕ) where
 
 -- An answer to an export: a refusal; that more is needed, and then the text is short and not the last; or the columns, no more than a record has fields.
 pub data ColumnsAnswered (Says : Said → List Bool → Type 0) (export : List ℕ) (last : Bool) : Type 0 where
-  refuses_export : (r : Refusal) {after : List Bool} → Says (said_columns (Columns.Refused r)) after → ColumnsAnswered Says export last
+  refuses_export : (r : Refusal) {after : List Bool} → Says (said_columns (Err r)) after → ColumnsAnswered Says export last
   needs_more : {after : List Bool} → Says said_more after → last ≡ false → length export < most_bytes + line_end → ColumnsAnswered Says export last
   knows_columns : {k : ℕ} {after : List Bool} → Says (said_kept k) after → length (take k after) ≤ most_fields → ColumnsAnswered Says export last
 

@@ -1,6 +1,7 @@
 -- What the loop over a header's names keeps from turn to turn: the names passed are items, and no item stands twice. It rests on the laws of
 -- fields by their ends and of names that are found.
 -- Assumes nothing.
+use Rattle.std.specs.Prelude.{Some, Ok}
 use mathlib.Core.Path.{◌≡◌, refl, sym, ap, ◌∙◌}
 use mathlib.Core.Bool.{Bool, true, false}
 use mathlib.Core.List.{List}
@@ -12,8 +13,7 @@ use lib.Seq.{get_or-set_same, get_or-set_other}
 use Rattle.laws.specs.Tells.{Tells}
 use Rattle.laws.proofs.Bools.{true_not_false}
 use Rattle.laws.proofs.Tells.{tells_no, tells_yes}
-use Rattle.items.specs.Lookup.{find_in}
-use Rattle.items.specs.declared.Found.{Found}
+use Rattle.items.specs.Lookup.{Found, find_in}
 use Rattle.items.proofs.Entries.{found_bytes}
 use Rattle.records.specs.Fields.{field_at, field_len}
 use Rattle.records.specs.Rows.{start_at, nth_field}
@@ -23,14 +23,14 @@ use Rattle.exports.specs.Names.{unquoted, name_in, column_item}
 use Rattle.columns.specs.Inner.{IsField, HoldsNumber, HeaderReady, FindsItems}
 
 -- Two names that are found at one item are equal.
-one_name : (t : List ℕ) (n : ℕ) (x y : List ℕ) (i : ℕ) → find_in t n x ≡ Found.At i → find_in t n y ≡ Found.At i → x ≡ y
+one_name : (t : List ℕ) (n : ℕ) (x y : List ℕ) (i : ℕ) → find_in t n x ≡ Ok (Some i) → find_in t n y ≡ Ok (Some i) → x ≡ y
 one_name t n x y i e d = sym (found_bytes t n x i e) ∙ found_bytes t n y i d
 
 -- c names are looked up.
 pub record Looking (t : List ℕ) (n : ℕ) (l ends : List ℕ) (fields : ℕ) (numbers₀ numbers : List ℕ) (c : ℕ) : Type 0 where
   pub ready : HeaderReady l ends fields numbers₀
   pub sized : length numbers ≡ length numbers₀
-  pub items : (j : ℕ) → j < c → column_item t n (fields_to l 0 ends fields) j ≡ Found.At (get_or numbers j 0)
+  pub items : (j : ℕ) → j < c → column_item t n (fields_to l 0 ends fields) j ≡ Ok (Some (get_or numbers j 0))
   pub apart : (i j : ℕ) → i < j → j < c → get_or numbers i 0 ≡ get_or numbers j 0 → ⊥
 
 -- No name is looked up.
@@ -58,10 +58,10 @@ module _ {t : List ℕ} {n : ℕ} {l ends : List ℕ} {fields : ℕ} {numbers₀
     items = λ z. record { each = item };
   }
     where
-      item : (j : ℕ) → j < length (fields_to l 0 ends fields) → column_item t n (fields_to l 0 ends fields) j ≡ Found.At (get_or numbers j 0)
+      item : (j : ℕ) → j < length (fields_to l 0 ends fields) → column_item t n (fields_to l 0 ends fields) j ≡ Ok (Some (get_or numbers j 0))
       item j g = w.items j (omega (arith, count))
 
-      same_item : (i k : ℕ) → Found.At i ≡ Found.At k → i ≡ k
+      same_item : (i k : ℕ) → ◌≡◌ {A = Found} (Ok (Some i)) (Ok (Some k)) → i ≡ k
       same_item i k e = cc
 
       apart : (i j : ℕ) → i < j → j < length (fields_to l 0 ends fields)
@@ -95,13 +95,13 @@ module _ {t : List ℕ} {n : ℕ} {l ends : List ℕ} {fields : ℕ} {numbers₀
       column = ap (λ (y : List ℕ). find_in t n (unquoted y)) (fields_at l 0 ends fields c h ∙ sym is) ∙ sym g
 
       -- A name that is no item.
-      pub look_absent : ((i : ℕ) → x ≡ Found.At i → ⊥) → FindsItems t n (fields_to l 0 ends fields) false numbers
+      pub look_absent : ((i : ℕ) → x ≡ Ok (Some i) → ⊥) → FindsItems t n (fields_to l 0 ends fields) false numbers
       look_absent o = record {
         told = tells_no (λ ok. let known = ok.known c (omega (arith, count)) in o known.item (sym column ∙ known.found));
         items = λ z. absurd (true_not_false z refl);
       }
 
-      module _ {i : ℕ} (a : x ≡ Found.At i) {b : Bool} (told : Tells (HoldsNumber numbers c i) b) where
+      module _ {i : ℕ} (a : x ≡ Ok (Some i)) {b : Bool} (told : Tells (HoldsNumber numbers c i) b) where
         -- A name that is repeated.
         pub look_repeated : b ≡ true → FindsItems t n (fields_to l 0 ends fields) false numbers
         look_repeated e = record {
@@ -109,7 +109,7 @@ module _ {t : List ℕ} {n : ℕ} {l ends : List ℕ} {fields : ℕ} {numbers₀
               tells_no
               (λ ok.
               ok.distinct s.place c s.below (omega (arith, count))
-              (one_name t n (name_in fs s.place) (name_in fs c) i (w.items s.place s.below ∙ ap Found.At s.same) (column ∙ a)));
+              (one_name t n (name_in fs s.place) (name_in fs c) i (w.items s.place s.below ∙ ap (λ k. Ok (Some k)) s.same) (column ∙ a)));
           items = λ z. absurd (true_not_false z refl);
         }
           where
@@ -131,9 +131,9 @@ module _ {t : List ℕ} {n : ℕ} {l ends : List ℕ} {fields : ℕ} {numbers₀
             there : (j : ℕ) → j < c → get_or (set numbers c i) j 0 ≡ get_or numbers j 0
             there j k = get_or-set_other numbers c j i 0 (λ z. omega arith)
 
-            item : (j : ℕ) → j < c + 1 → Dec (c ≤ j) → column_item t n (fields_to l 0 ends fields) j ≡ Found.At (get_or (set numbers c i) j 0)
+            item : (j : ℕ) → j < c + 1 → Dec (c ≤ j) → column_item t n (fields_to l 0 ends fields) j ≡ Ok (Some (get_or (set numbers c i) j 0))
             item j k (yes m) = let z : j ≡ c = omega arith in rw (z, here) (column ∙ a)
-            item j k (no m) = w.items j (omega arith) ∙ ap Found.At (sym (there j (omega arith)))
+            item j k (no m) = w.items j (omega arith) ∙ ap (λ k. Ok (Some k)) (sym (there j (omega arith)))
 
             apart : (p j : ℕ) → p < j → j < c + 1 → Dec (c ≤ j) → get_or (set numbers c i) p 0 ≡ get_or (set numbers c i) j 0 → ⊥
             apart p j k m (yes q) u =

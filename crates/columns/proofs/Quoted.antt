@@ -15,8 +15,7 @@ use Rattle.laws.specs.Tells.{Tells}
 use Rattle.laws.proofs.Tells.{tells_no, tells_eqb}
 use Rattle.items.specs.Names.{name_room, name_bytes, is_name}
 use Rattle.scans.specs.Bytes.{name_byte}
-use Rattle.items.specs.Lookup.{said_found, find_in, FindSays}
-use Rattle.items.specs.declared.Found.{Found}
+use Rattle.items.specs.Lookup.{Found, said_found, find_in, FindSays}
 use Rattle.items.proofs.Lookup.{find_told}
 use Rattle.records.specs.Fields.{field_len, longer_by, after_cr, behind, Where, start, plain, quoted, closed, scan, field_at}
 use Rattle.scans.specs.Ascii.{comma, quote, cr, lf}

@@ -1,6 +1,7 @@
 -- The answer for labelled items, a class and an export, and what is then in the buffer, are the only ones that the promise allows; and so is the class that
 -- a text is. It rests on that what a bool tells determines it, and that an answer is known by what it says.
 -- Assumes nothing.
+use Rattle.std.specs.Prelude.{Option, Some, None, Result, Ok, Err}
 use mathlib.Core.Path.{◌≡◌, refl, sym, ap, ◌∙◌}
 use mathlib.Core.Bool.{Bool, false}
 use mathlib.Core.List.{List, [], ◌∷◌, ◌++◌}
@@ -21,19 +22,18 @@ use Rattle.exports.specs.Names.{HeaderOk, KeepsCovered}
 use Rattle.columns.specs.Reader.{said_reader, ReaderSays}
 use Rattle.columns.specs.Columns.{said_kept, said_more, said_columns, header_at, HeaderSays, bad_header, more_header, bad_names, no_room, keeps}
 use Rattle.columns.specs.Columns.{ColumnsSays, bad_items, few_labels, bad_label, headed}
-use Rattle.columns.specs.declared.Columns.{Columns}
-use Rattle.columns.specs.declared.Reader.{Reader}
+use Rattle.refusals.specs.declared.Refusal.{Refusal}
 
 -- The class that says this, and that there is only one.
-abbrev known_of : Said → Reader
-known_of (success c l) = Reader.Known (class_of (get_or l 0 0) (get_or l 1 0))
-known_of (refused n p) = Reader.Refused (refusal_of n p)
+abbrev known_of : Said → Result Class Refusal
+known_of (success c l) = Ok (class_of (get_or l 0 0) (get_or l 1 0))
+known_of (refused n p) = Err (refusal_of n p)
 
-reader_back : (r : Reader) → known_of (said_reader r) ≡ r
-reader_back (Reader.Known c) = refl
-reader_back (Reader.Refused r) = ap Reader.Refused (refusal_back r)
+reader_back : (r : Result Class Refusal) → known_of (said_reader r) ≡ r
+reader_back (Ok c) = refl
+reader_back (Err r) = ap Err (refusal_back r)
 
-pub reader_unique : {l : List ℕ} {r s : Reader} → ReaderSays l (said_reader r) → ReaderSays l (said_reader s) → r ≡ s
+pub reader_unique : {l : List ℕ} {r s : Result Class Refusal} → ReaderSays l (said_reader r) → ReaderSays l (said_reader s) → r ≡ s
 reader_unique p q = said_injective said_reader known_of reader_back (p.answer ∙ sym q.answer)
 
 -- What is said, and the content of the buffer, are the same.
@@ -126,26 +126,26 @@ said_unique (headed o r f p) (bad_label u s g) = absurd (first_not_all g f)
 said_unique (headed o r f p) (headed u s g q) = header_unique p q
 
 -- The columns that say this.
-abbrev count_of : List ℕ → Columns
-count_of [] = Columns.More
-count_of (n ∷ l) = Columns.Kept n
+abbrev count_of : List ℕ → Result (Option ℕ) Refusal
+count_of [] = Ok None
+count_of (n ∷ l) = Ok (Some n)
 
-abbrev columns_of : Said → Columns
+abbrev columns_of : Said → Result (Option ℕ) Refusal
 columns_of (success c l) = count_of l
-columns_of (refused n p) = Columns.Refused (refusal_of n p)
+columns_of (refused n p) = Err (refusal_of n p)
 
-columns_back : (r : Columns) → columns_of (said_columns r) ≡ r
-columns_back (Columns.Kept n) = refl
-columns_back Columns.More = refl
-columns_back (Columns.Refused r) = ap Columns.Refused (refusal_back r)
+columns_back : (r : Result (Option ℕ) Refusal) → columns_of (said_columns r) ≡ r
+columns_back (Ok (Some n)) = refl
+columns_back (Ok None) = refl
+columns_back (Err r) = ap Err (refusal_back r)
 
 -- The same answer, and the same content of the buffer.
-pub record Same (a b : Columns) (d e : List Bool) : Type 0 where
+pub record Same (a b : Result (Option ℕ) Refusal) (d e : List Bool) : Type 0 where
   pub answer : a ≡ b
   pub buffer : d ≡ e
 
 -- Any two results that `kept_columns` allows are equal: the answer, and the content of the buffer.
-pub columns_unique : {t : List ℕ} {h : Head} {levels marks : List ℕ} {reader : Class} {l : List ℕ} {last : Bool} {before : List Bool} {r s : Columns}
+pub columns_unique : {t : List ℕ} {h : Head} {levels marks : List ℕ} {reader : Class} {l : List ℕ} {last : Bool} {before : List Bool} {r s : Result (Option ℕ) Refusal}
     {d e : List Bool} → ColumnsSays t h levels marks reader l last before (said_columns r) d
     → ColumnsSays t h levels marks reader l last before (said_columns s) e → Same r s d e
 columns_unique p q = record {

@@ -1,6 +1,6 @@
 -- The promise of `kept_columns`: which columns of an export a reader may see, by labelled items, the reader's class and the export's header.
 -- Assumes nothing.
-use Rattle.std.specs.Prelude.{◌≡◌, Bool, cond, List, [], ◌∷◌, ◌++◌, ℕ, ◌≤◌, ◌<◌, length, drop}
+use Rattle.std.specs.Prelude.{◌≡◌, Bool, cond, List, [], ◌∷◌, ◌++◌, ℕ, ◌≤◌, ◌<◌, length, drop, Option, Some, None, Result, Ok, Err}
 use Rattle.laws.specs.First.{AllBelow, FirstFailing}
 use Rattle.classes.specs.declared.Class.{Class}
 use Rattle.items.specs.Table.{ItemsOk}
@@ -10,7 +10,7 @@ use Rattle.refusals.specs.Said.{Said, success, refused_by, said_refusal}
 use Rattle.refusals.specs.declared.Fault.{Fault}
 use Rattle.records.specs.Rows.{Record, whole, more, bad, record_at, most_fields}
 use Rattle.exports.specs.Names.{HeaderOk, KeepsCovered}
-use Rattle.columns.specs.declared.Columns.{Columns}
+use Rattle.refusals.specs.declared.Refusal.{Refusal}
 
 -- What an answer says: the number of the columns, or that the text ends before the header does; or a refusal.
 abbrev pub said_kept : ℕ → Said
@@ -19,10 +19,10 @@ said_kept n = success 0 (n ∷ [])
 abbrev pub said_more : Said
 said_more = success 1 []
 
-abbrev pub said_columns : Columns → Said
-said_columns (Columns.Kept n) = said_kept n
-said_columns Columns.More = said_more
-said_columns (Columns.Refused r) = said_refusal r
+abbrev pub said_columns : Result (Option ℕ) Refusal → Said
+said_columns (Ok (Some n)) = said_kept n
+said_columns (Ok None) = said_more
+said_columns (Err r) = said_refusal r
 
 -- The header at the front of a text: "No bytes at all is 16 at 1".
 abbrev pub header_at : Bool → List ℕ → Record

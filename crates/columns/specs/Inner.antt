@@ -1,10 +1,9 @@
 -- What the inner functions need and give: the fields of a header and the items that they name, and which columns a class covers.
 -- Assumes nothing.
-use Rattle.std.specs.Prelude.{◌≡◌, Bool, true, false, List, ℕ, ◌≤◌, ◌<◌, length, get_or, take, drop}
+use Rattle.std.specs.Prelude.{◌≡◌, Bool, true, false, List, ℕ, ◌≤◌, ◌<◌, length, get_or, take, drop, Some, Ok, Option, None, Result, Err}
 use Rattle.laws.specs.Tells.{Tells}
 use Rattle.classes.specs.Class.{Covers}
 use Rattle.classes.specs.declared.Class.{Class}
-use Rattle.items.specs.declared.Found.{Found}
 use Rattle.refusals.specs.declared.Fault.{Fault}
 use Rattle.scans.specs.Ascii.{quote}
 use Rattle.records.specs.Fields.{field_at, field_len}
@@ -12,11 +11,11 @@ use Rattle.records.specs.Rows.{whole, more, bad, most_fields}
 use Rattle.records.specs.Inner.{FieldSpans}
 use Rattle.exports.specs.Names.{column_item, HeaderOk}
 use Rattle.columns.specs.Columns.{header_at}
-use Rattle.columns.specs.declared.Columns.{Columns}
+use Rattle.refusals.specs.declared.Refusal.{Refusal}
 
 -- The answer that is a refusal.
-abbrev pub refused_for : Fault → ℕ → Columns
-refused_for f p = Columns.Refused (record { fault = f; place = p })
+abbrev pub refused_for : Fault → ℕ → Result (Option ℕ) Refusal
+refused_for f p = Err (record { fault = f; place = p })
 
 -- The bytes are those of the field at the front of some text.
 pub record IsField (x : List ℕ) : Type 0 where
@@ -45,7 +44,7 @@ pub record HeaderReady (export ends : List ℕ) (fields : ℕ) (numbers : List �
 
 -- The item of each column.
 pub record Numbered (t : List ℕ) (n : ℕ) (fs : List (List ℕ)) (numbers : List ℕ) : Type 0 where
-  pub each : (c : ℕ) → c < length fs → column_item t n fs c ≡ Found.At (get_or numbers c 0)
+  pub each : (c : ℕ) → c < length fs → column_item t n fs c ≡ Ok (Some (get_or numbers c 0))
 
 -- Whether each name is an item and none is repeated; if so, their items are known.
 pub record FindsItems (t : List ℕ) (n : ℕ) (fs : List (List ℕ)) (r : Bool) (numbers : List ℕ) : Type 0 where
@@ -63,12 +62,12 @@ pub record Headed (t : List ℕ) (n : ℕ) (export : List ℕ) (last : Bool) (k 
   pub items : Numbered t n fields numbers
 
 -- What reading the header answers: 16 or 17 at 1, that the text ends before it does, or the number of the columns.
-pub data HeadSays (t : List ℕ) (n : ℕ) (export : List ℕ) (last : Bool) (numbers : List ℕ) : Columns → Type 0 where
+pub data HeadSays (t : List ℕ) (n : ℕ) (export : List ℕ) (last : Bool) (numbers : List ℕ) : Result (Option ℕ) Refusal → Type 0 where
   no_header : header_at last export ≡ bad → HeadSays t n export last numbers (refused_for Fault.CsvSyntax 1)
-  part_header : header_at last export ≡ more → HeadSays t n export last numbers Columns.More
+  part_header : header_at last export ≡ more → HeadSays t n export last numbers (Ok None)
   no_names : {fs : List (List ℕ)} {k : ℕ} → header_at last export ≡ whole fs k → (HeaderOk t n fs → ⊥) →
       HeadSays t n export last numbers (refused_for Fault.CsvHeader 1)
-  good_header : {k : ℕ} → Headed t n export last k numbers → HeadSays t n export last numbers (Columns.Kept k)
+  good_header : {k : ℕ} → Headed t n export last k numbers → HeadSays t n export last numbers (Ok (Some k))
 
 -- There is a number for each column, and room to say of each whether it is covered.
 pub record CoverReady (numbers : List ℕ) (fields : ℕ) (kept : List Bool) : Type 0 where
@@ -83,7 +82,7 @@ pub record Covering (labels : ℕ → Class) (reader : Class) (numbers : List �
 
 -- The same as an answer: the number of the columns, or 11 at 0.
 pub data KeepSays (labels : ℕ → Class) (reader : Class) (numbers : List ℕ) (fields : ℕ) (before : List Bool)
-    : Columns → List Bool → Type 0 where
+    : Result (Option ℕ) Refusal → List Bool → Type 0 where
   roomless : length before < fields → KeepSays labels reader numbers fields before (refused_for Fault.NoRoom 0) before
   covers : {after : List Bool} → fields ≤ length before → Covering labels reader numbers fields before after →
-      KeepSays labels reader numbers fields before (Columns.Kept fields) after
+      KeepSays labels reader numbers fields before (Ok (Some fields)) after

@@ -1,11 +1,10 @@
 -- The header of an export: the names in it, which of them are items, and which columns a reader's class covers.
 -- Assumes nothing.
-use Rattle.std.specs.Prelude.{◌≡◌, Bool, false, cond, List, [], ◌∷◌, ℕ, ◌<◌, eqb, length, get_or}
+use Rattle.std.specs.Prelude.{◌≡◌, Bool, false, cond, List, [], ◌∷◌, ℕ, ◌<◌, eqb, length, get_or, Some, Ok}
 use Rattle.laws.specs.Tells.{Tells}
 use Rattle.classes.specs.Class.{Covers}
 use Rattle.classes.specs.declared.Class.{Class}
-use Rattle.items.specs.Lookup.{find_in}
-use Rattle.items.specs.declared.Found.{Found}
+use Rattle.items.specs.Lookup.{Found, find_in}
 use Rattle.scans.specs.Ascii.{quote}
 
 -- What stands between quotes, with "doubled quotes made one" and the closing quote off.
@@ -30,7 +29,7 @@ column_item t n fs c = find_in t n (name_in fs c)
 -- A name that is an item.
 pub record IsItem (t : List ℕ) (n : ℕ) (name : List ℕ) : Type 0 where
   pub item : ℕ
-  pub found : find_in t n name ≡ Found.At item
+  pub found : find_in t n name ≡ Ok (Some item)
 
 -- "a header name, quotes taken off, that is no item or is repeated" is bad: each name is an item, and none is repeated.
 pub record HeaderOk (t : List ℕ) (n : ℕ) (fs : List (List ℕ)) : Type 0 where
@@ -40,4 +39,4 @@ pub record HeaderOk (t : List ℕ) (n : ℕ) (fs : List (List ℕ)) : Type 0 whe
 -- "only the columns whose label that class covers" are kept.
 pub record KeepsCovered (t : List ℕ) (n : ℕ) (labels : ℕ → Class) (reader : Class) (fs : List (List ℕ)) (kept : List Bool) : Type 0 where
   pub columns : length kept ≡ length fs
-  pub covered : (c i : ℕ) → c < length fs → column_item t n fs c ≡ Found.At i → Tells (Covers reader (labels i)) (get_or kept c false)
+  pub covered : (c i : ℕ) → c < length fs → column_item t n fs c ≡ Ok (Some i) → Tells (Covers reader (labels i)) (get_or kept c false)

@@ -15,6 +15,7 @@ pub fn fill<R: Read>(input: &mut R, buf: &mut [u8]) -> io::Result<usize>
     ensures err { OnErr result (length buf.new ≡ length buf.old) }
 {
     let mut have = 0;
+    // Not a `for`: each read says how many bytes it took, so that turns are no index, and `read_exact` says nothing of what is held where the input ends.
     while have < buf.len() {
         let n = input.read(&mut buf[have..])?;
         if n == 0 {

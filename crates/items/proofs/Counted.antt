@@ -1,5 +1,6 @@
 -- The count of a table: entries past it are not looked at. Two tables whose first n entries are equal give the same look-ups, and both are right
 -- or neither is. It rests on what each answer tells. Assumes nothing.
+use Rattle.std.specs.Prelude.{Some, None, Ok, Err}
 use mathlib.Core.Path.{◌≡◌, sym, ◌∙◌}
 use mathlib.Core.List.{List}
 use Prim.Native.Nat.{ℕ, ◌+◌, ◌*◌, ◌≤◌, ◌<◌}
@@ -8,9 +9,7 @@ use lib.ListN.{length}
 use Rattle.laws.proofs.Buffers.{SameFront}
 use Rattle.items.specs.Names.{name_room}
 use Rattle.items.specs.Table.{entry_byte, NameAt, ItemsOk}
-use Rattle.items.specs.Lookup.{find_in}
-use Rattle.items.specs.declared.Found.{Found}
-use Rattle.items.specs.declared.Found.TheVariants.{At, Absent, Refused}
+use Rattle.items.specs.Lookup.{Found, find_in}
 use Rattle.items.proofs.Lookup.{HasName, Sized, FoundTells, find_says, find_is}
 
 -- Two tables with room for n items are equal up to n.
@@ -30,15 +29,15 @@ module _ {n : ℕ} {t u : List ℕ} (s : SameItems n t u) where
   sized z = record { size = z.size; room = s.right }
 
 says : {n : ℕ} {t u : List ℕ} → SameItems n t u → (name : List ℕ) (x : Found) → FoundTells t n name x → FoundTells u n name x
-says s name (At i) f = record {
+says s name (Ok (Some i)) f = record {
   sized = sized s f.sized;
   spelled = f.spelled;
   item = f.item;
   here = has_name s f.item f.here;
   lowest = λ j l h. f.lowest j l (has_name (same_items_sym s) (omega (arith, f.item)) h);
 }
-says s name Absent f = record { sized = sized s f.sized; none = λ e i l h. f.none e i l (has_name (same_items_sym s) l h) }
-says s name (Refused r) f = record { is = f.is; wrong = λ z. f.wrong (sized (same_items_sym s) z) }
+says s name (Ok None) f = record { sized = sized s f.sized; none = λ e i l h. f.none e i l (has_name (same_items_sym s) l h) }
+says s name (Err r) f = record { is = f.is; wrong = λ z. f.wrong (sized (same_items_sym s) z) }
 
 pub find_counted : {n : ℕ} {t u : List ℕ} → SameItems n t u → (name : List ℕ) → find_in t n name ≡ find_in u n name
 find_counted {n} {t} {u} s name = find_is u n name (find_in t n name) (says s name (find_in t n name) (find_says t n name))

@@ -1,6 +1,7 @@
 -- An entry that has a name is that name: the item that is found has the bytes that were looked up, and tables that are equal up to their count have the same
 -- names. They rest on the laws of looking up a name.
 -- Assumes nothing.
+use Rattle.std.specs.Prelude.{Some, Ok}
 use mathlib.Core.Path.{◌≡◌, sym, ◌∙◌}
 use mathlib.Core.Bool.{true}
 use mathlib.Core.List.{List}
@@ -12,7 +13,6 @@ use Rattle.scans.specs.Bytes.{name_byte}
 use Rattle.items.specs.Names.{name_room, is_name}
 use Rattle.items.specs.Table.{entry_byte, name_len, name_of, NameAt, ItemsOk}
 use Rattle.items.specs.Lookup.{find_in}
-use Rattle.items.specs.declared.Found.{Found}
 use Rattle.items.proofs.Names.{name_spelled, byte_not_zero}
 use Rattle.items.proofs.Table.{name_of_length, name_of_at, name_len_is}
 use Rattle.items.proofs.Lookup.{HasName, find_lowest, name_is_name, own_name}
@@ -48,7 +48,7 @@ module _ (t : List ℕ) (i : ℕ) (name : List ℕ) (e : is_name name ≡ true) 
           (λ l. entry_zero (length name) (omega arith) l)
 
 -- The item that is found has those bytes.
-pub found_bytes : (t : List ℕ) (n : ℕ) (name : List ℕ) (i : ℕ) → find_in t n name ≡ Found.At i → name_of t i ≡ name
+pub found_bytes : (t : List ℕ) (n : ℕ) (name : List ℕ) (i : ℕ) → find_in t n name ≡ Ok (Some i) → name_of t i ≡ name
 found_bytes t n name i e = let f = find_lowest t n name i e in has_name_of t i name f.spelled f.here
 
 -- Tables that are equal up to n have the same names.

@@ -4,3 +4,4 @@ pub mod Table
 pub mod Lookup
 pub mod Counted
 pub mod Entries
+pub mod Told

@@ -1,5 +1,6 @@
 -- Looking up a name: what each answer tells, that what is told determines the answer, and that an item's own name finds it. They rest on the
 -- laws of the table and of searches. Assumes nothing.
+use Rattle.std.specs.Prelude.{Some, None, Ok, Err}
 use mathlib.Core.Path.{◌≡◌, refl, sym, ap, ◌∙◌, subst}
 use mathlib.Core.Bool.{Bool, true, false, cond}
 use mathlib.Core.List.{List, [], ◌∷◌}
@@ -22,9 +23,7 @@ use Rattle.refusals.proofs.Said.{said_injective, refusal_of, refusal_back}
 use Rattle.items.specs.Names.{name_room, is_name}
 use Rattle.items.specs.Table.{table_fits, entry_byte, name_len, name_of, SameEntry, ItemsOk}
 use Rattle.refusals.specs.Sizes.{most_items}
-use Rattle.items.specs.Lookup.{said_found, bad_table, same_name, look_up, find_in, FindSays}
-use Rattle.items.specs.declared.Found.{Found}
-use Rattle.items.specs.declared.Found.TheVariants.{At, Absent, Refused}
+use Rattle.items.specs.Lookup.{Found, said_found, bad_table, same_name, look_up, find_in, FindSays}
 use Rattle.laws.proofs.Search.{First, first_below_lem}
 use Rattle.items.proofs.Names.{spelled_name}
 use Rattle.items.proofs.Table.{named_spelled, named_rest, name_of_at, name_of_past}
@@ -44,7 +43,7 @@ lent_byte : (name : List ℕ) (k : ℕ) → entry_byte name 0 k ≡ get_or name 
 unfolding entry_byte
 lent_byte name k = rw (zero-add k)
 
-pub lent_tells : {t : List ℕ} {i : ℕ} {name : List ℕ} {r : Bool} → Tells (SameEntry t i name 0) r → r ≡ same_name t i name
+lent_tells : {t : List ℕ} {i : ℕ} {name : List ℕ} {r : Bool} → Tells (SameEntry t i name 0) r → r ≡ same_name t i name
 lent_tells {t} {i} {name} s =
     tells_unique
     (record {
@@ -52,6 +51,12 @@ lent_tells {t} {i} {name} s =
       fails = λ e h. s.fails e (record { bytes = λ k l. h.bytes k l ∙ sym (lent_byte name k) });
     })
     (same_name_tells t i name)
+
+pub lent_yes : {t : List ℕ} {i : ℕ} {name : List ℕ} {r : Bool} → Tells (SameEntry t i name 0) r → r ≡ true → same_name t i name ≡ true
+lent_yes s e = sym (lent_tells s) ∙ e
+
+pub lent_no : {t : List ℕ} {i : ℕ} {name : List ℕ} {r : Bool} → Tells (SameEntry t i name 0) r → r ≡ false → same_name t i name ≡ false
+lent_no s e = sym (lent_tells s) ∙ e
 
 -- The table's size is right.
 pub record Sized (t : List ℕ) (n : ℕ) : Type 0 where
@@ -83,13 +88,13 @@ pub record NotFound (t : List ℕ) (n : ℕ) (name : List ℕ) : Type 0 where
 
 -- Refused: the size is wrong, and the refusal is BadTable at 0.
 pub record WrongSize (t : List ℕ) (n : ℕ) (r : Refusal) : Type 0 where
-  pub is : Refused r ≡ bad_table
+  pub is : Err r ≡ bad_table
   pub wrong : Sized t n → ⊥
 
 abbrev pub FoundTells : List ℕ → ℕ → List ℕ → Found → Type 0
-FoundTells t n name (At i) = FoundAt t n name i
-FoundTells t n name Absent = NotFound t n name
-FoundTells t n name (Refused r) = WrongSize t n r
+FoundTells t n name (Ok (Some i)) = FoundAt t n name i
+FoundTells t n name (Ok None) = NotFound t n name
+FoundTells t n name (Err r) = WrongSize t n r
 
 pub find_says : (t : List ℕ) (n : ℕ) (name : List ℕ) → FoundTells t n name (find_in t n name)
 unfolding find_in look_up
@@ -102,7 +107,7 @@ find_says t n name = says (table_fits t n) refl (is_name name) refl (ltb first n
     search_of = first_below_lem n (λ i. same_name t i name)
 
     says : (b : Bool) → table_fits t n ≡ b → (d : Bool) → is_name name ≡ d → (u : Bool) → ltb first n ≡ u
-        → FoundTells t n name (cond b (cond d (cond u (At first) Absent) Absent) bad_table)
+        → FoundTells t n name (cond b (cond d (cond u (Ok (Some first)) (Ok None)) (Ok None)) bad_table)
     says false e d f u g = record { is = refl; wrong = (fits_tells t n).fails e }
     says true e false f u g = record { sized = (fits_tells t n).holds e; none = λ h. absurd (true_not_false h f) }
     says true e true f false g = record {
@@ -126,25 +131,25 @@ lowest_le {i = i} {j = j} f g = go (dec_le i j)
 
 -- Any two answers that tell what they should are equal.
 pub says_unique : (t : List ℕ) (n : ℕ) (name : List ℕ) (x y : Found) → FoundTells t n name x → FoundTells t n name y → x ≡ y
-says_unique t n name (At i) (At j) f g = ap At (le_antisymm (lowest_le f g) (lowest_le g f))
-says_unique t n name (At i) Absent f g = absurd (g.none f.spelled i f.item f.here)
-says_unique t n name (At i) (Refused r) f g = absurd (g.wrong f.sized)
-says_unique t n name Absent (At j) f g = absurd (f.none g.spelled j g.item g.here)
-says_unique t n name Absent Absent f g = refl
-says_unique t n name Absent (Refused r) f g = absurd (g.wrong f.sized)
-says_unique t n name (Refused r) (At j) f g = absurd (f.wrong g.sized)
-says_unique t n name (Refused r) Absent f g = absurd (f.wrong g.sized)
-says_unique t n name (Refused r) (Refused s) f g = f.is ∙ sym g.is
+says_unique t n name (Ok (Some i)) (Ok (Some j)) f g = ap (λ k. Ok (Some k)) (le_antisymm (lowest_le f g) (lowest_le g f))
+says_unique t n name (Ok (Some i)) (Ok None) f g = absurd (g.none f.spelled i f.item f.here)
+says_unique t n name (Ok (Some i)) (Err r) f g = absurd (g.wrong f.sized)
+says_unique t n name (Ok None) (Ok (Some j)) f g = absurd (f.none g.spelled j g.item g.here)
+says_unique t n name (Ok None) (Ok None) f g = refl
+says_unique t n name (Ok None) (Err r) f g = absurd (g.wrong f.sized)
+says_unique t n name (Err r) (Ok (Some j)) f g = absurd (f.wrong g.sized)
+says_unique t n name (Err r) (Ok None) f g = absurd (f.wrong g.sized)
+says_unique t n name (Err r) (Err s) f g = f.is ∙ sym g.is
 
 pub find_is : (t : List ℕ) (n : ℕ) (name : List ℕ) (x : Found) → FoundTells t n name x → x ≡ find_in t n name
 find_is t n name x f = says_unique t n name x (find_in t n name) f (find_says t n name)
 
 -- At i: item i has the name, and it is the lowest.
-pub find_lowest : (t : List ℕ) (n : ℕ) (name : List ℕ) (i : ℕ) → find_in t n name ≡ At i → FoundAt t n name i
+pub find_lowest : (t : List ℕ) (n : ℕ) (name : List ℕ) (i : ℕ) → find_in t n name ≡ Ok (Some i) → FoundAt t n name i
 find_lowest t n name i e = subst (FoundTells t n name) e (find_says t n name)
 
 -- Absent: the bytes are no name, or no item has it.
-pub find_absent : (t : List ℕ) (n : ℕ) (name : List ℕ) → find_in t n name ≡ Absent → NotFound t n name
+pub find_absent : (t : List ℕ) (n : ℕ) (name : List ℕ) → find_in t n name ≡ Ok None → NotFound t n name
 find_absent t n name e = subst (FoundTells t n name) e (find_says t n name)
 
 -- Refused exactly if there are over 256 items or the buffer has no room for them.
@@ -162,17 +167,17 @@ find_bad t n name = (λ e. wrong (subst (FoundTells t n name) e (find_says t n n
 
 -- An answer is known by what it says.
 abbrev first_or : List ℕ → Found
-first_or [] = Absent
-first_or (i ∷ l) = At i
+first_or [] = Ok None
+first_or (i ∷ l) = Ok (Some i)
 
 abbrev found_of : Said → Found
 found_of (success c l) = first_or l
-found_of (refused n p) = Refused (refusal_of n p)
+found_of (refused n p) = Err (refusal_of n p)
 
 found_back : (x : Found) → found_of (said_found x) ≡ x
-found_back (At i) = refl
-found_back Absent = refl
-found_back (Refused r) = ap Refused (refusal_back r)
+found_back (Ok (Some i)) = refl
+found_back (Ok None) = refl
+found_back (Err r) = ap Err (refusal_back r)
 
 pub find_told : {t : List ℕ} {n : ℕ} {name : List ℕ} {r : Found} → FindSays t n name (said_found r) → r ≡ find_in t n name
 find_told s = said_injective said_found found_of found_back s.answer
@@ -191,10 +196,10 @@ own_name {t} o i h = record { bytes = λ k l. go k l (dec_le (name_len t i) k) }
     go k l (yes g) = (named_rest (o.names i h)).zeros k g l ∙ sym (name_of_past t i k g)
     go k l (no g) = sym (name_of_at t i k (omega arith))
 
-pub found_name : {t : List ℕ} {n : ℕ} → ItemsOk t n → (i : ℕ) → i < n → find_in t n (name_of t i) ≡ At i
+pub found_name : {t : List ℕ} {n : ℕ} → ItemsOk t n → (i : ℕ) → i < n → find_in t n (name_of t i) ≡ Ok (Some i)
 found_name {t} {n} o i h =
     sym
-    (find_is t n (name_of t i) (At i)
+    (find_is t n (name_of t i) (Ok (Some i))
     (record {
       sized = record { size = o.size; room = o.room };
       spelled = name_is_name o i h;

@@ -1,16 +1,17 @@
 -- Names: what it is for bytes to be spelled as a name, and that `is_name` tells of it. They rest on induction over the bytes.
 -- Assumes nothing.
-use mathlib.Core.Path.{◌≡◌, refl, ap₂}
-use mathlib.Core.Bool.{true, false, ◌&&◌}
+use mathlib.Core.Path.{◌≡◌, refl, sym, ap₂, ◌∙◌}
+use mathlib.Core.Bool.{Bool, true, false, ◌&&◌}
 use mathlib.Core.List.{List, [], ◌∷◌}
 use Prim.Native.Nat.{ℕ, zero, suc, ◌≤◌, ◌<◌}
 use native.Mathlib.Omega.{arith}
-use lib.Dec.{leb}
+use lib.Dec.{leb, eqb}
+use Rattle.std.specs.Prelude.{◌↔◌, ◌≢◌, IsTrue}
 use lib.ListN.{length, get_or}
-use borrow.Author.Tests.{le-leb, leb-true}
+use borrow.Author.Tests.{le-leb, leb-true, eqb-true, eqb-false}
 use Rattle.laws.specs.Tells.{Tells}
 use Rattle.laws.proofs.Bools.{true_not_false, and_left, and_right}
-use Rattle.laws.proofs.Tells.{tells_test}
+use Rattle.laws.proofs.Tells.{tells_test, tells_no, tells_unique}
 use Rattle.items.specs.Names.{name_room, name_bytes, is_name}
 use Rattle.scans.specs.Bytes.{name_byte}
 
@@ -53,3 +54,20 @@ spelled_name {l} s = ap₂ ◌&&◌ (ap₂ ◌&&◌ (le-leb 1 (length l) s.least
 
 pub name_tells : (l : List ℕ) → Tells (Spelled l) (is_name l)
 name_tells l = tells_test (name_spelled l) spelled_name
+
+-- What the code tells of a name: no bytes, too many, and the test of each byte.
+pub name_none : (l : List ℕ) {e : Bool} → e ≡ eqb (length l) 0 → e ≡ true → false ≡ is_name l
+name_none l is e = tells_unique (tells_no (λ s. omega (arith, s.least, eqb-true (length l) 0 (sym is ∙ e)))) (name_tells l)
+
+pub name_long : (l : List ℕ) → name_room < length l → false ≡ is_name l
+name_long l h = tells_unique (tells_no (λ s. omega (arith, s.most))) (name_tells l)
+
+pub name_told : (l : List ℕ) {e r : Bool} → e ≡ eqb (length l) 0 → e ≡ false → length l ≤ name_room
+    → (IsTrue r ↔ ((k : ℕ) → k < length l → name_byte (get_or l k 0) ≡ true)) → r ≡ is_name l
+name_told l {r = r} is e h t = tells_unique told (name_tells l)
+  where
+    some : 1 ≤ length l
+    some = let n : length l ≢ 0 = eqb-false (length l) 0 (sym is ∙ e) in omega arith
+
+    told : Tells (Spelled l) r
+    told = tells_test (λ z. record { least = some; most = h; bytes = t.0 z }) (λ s. t.1 s.bytes)

@@ -1,10 +1,11 @@
 -- The item table: its bytes, the length of a name, and what it is for an entry to be a name. They rest on the laws of names and of searches.
 -- Assumes nothing.
-use mathlib.Core.Path.{◌≡◌, refl, ◌∙◌}
+use mathlib.Core.Path.{◌≡◌, refl, sym, ap, ◌∙◌}
 use mathlib.Core.List.{List}
 use Prim.Native.Nat.{ℕ, zero, suc, ◌+◌, ◌-◌, ◌*◌, ◌≤◌, ◌<◌}
 use native.Mathlib.Decide.{dec_le}
 use native.Mathlib.Omega.{arith}
+use Rattle.std.specs.Prelude.{min}
 use lib.Dec.{eqb}
 use lib.ListN.{length, get_or, drop, length-take, length-drop, get_or-eq_default}
 use lib.Seq.{get_or-take, get_or-drop}
@@ -18,6 +19,15 @@ use Rattle.items.proofs.Names.{Spelled, byte_not_zero}
 pub past_end : (t : List ℕ) (i k : ℕ) → length t ≤ i * name_room + k → entry_byte t i k ≡ 0
 unfolding entry_byte
 past_end t i k h = get_or-eq_default t 0 h
+
+-- A place that is too large for a number is past the table's end.
+pub byte_at : (t : List ℕ) (i k m at : ℕ) → length t ≤ m → at ≡ min (min (i * name_room) m + k) m → get_or t at 0 ≡ entry_byte t i k
+unfolding entry_byte
+byte_at t i k m at h e = go (dec_le (length t) (i * name_room + k))
+  where
+    go : Dec (length t ≤ i * name_room + k) → get_or t at 0 ≡ get_or t (i * name_room + k) 0
+    go (yes l) = get_or-eq_default t 0 (omega (arith, e)) ∙ sym (get_or-eq_default t 0 l)
+    go (no l) = ap (λ (j : ℕ). get_or t j 0) (omega (arith, e))
 
 pub byte_inside : (t : List ℕ) (i k : ℕ) → (entry_byte t i k ≡ 0 → ⊥) → i * name_room + k < length t
 byte_inside t i k n = go (dec_le (length t) (i * name_room + k))

@@ -4,15 +4,19 @@
 use mathlib.Core.Path.{◌≡◌, refl, sym, ap₂, subst}
 use mathlib.Core.Bool.{Bool, true, false, cond}
 use mathlib.Core.List.{List, [], ◌∷◌, ◌++◌}
-use Prim.Native.Nat.{ℕ, zero, suc, ◌≤◌, ◌<◌, zero-le, suc-le-suc}
+use Prim.Native.Nat.{ℕ, zero, suc, ◌≤◌, zero-le, suc-le-suc}
 use native.Mathlib.Omega.{arith}
 use lib.Dec.{eqb}
-use lib.ListN.{length, get_or, take, drop, drop_of_length-le, get_or-eq_default}
-use borrow.Author.Tests.{ne_eqb, eqb-true}
+use lib.ListN.{length, get_or, take, get_or-eq_default}
+use borrow.Author.Tests.{eqb-true}
+use Rattle.std.specs.Prelude.{Option, None, Some}
+use Rattle.std.specs.Option.{option_map}
+use Rattle.std.specs.List.{find}
+use Rattle.std.specs.Cmp.Lexicographic.{pointwise}
 use Rattle.laws.proofs.Bools.{true_not_false, and_left, and_right}
-use Rattle.keys.specs.Keys.{key_text, starts_with, found_or, key_or, key_at, next_rows, next_allowed}
+use Rattle.keys.specs.Keys.{key_text, every_key, starts_with, key_found, key_or, key_at, next_rows, next_allowed}
 use Rattle.keys.specs.declared.Key.{Key}
-use Rattle.keys.specs.declared.ReadKey.{ReadKey}
+use Rattle.keys.specs.declared.KeyToken.{KeyToken}
 
 -- No key's text is empty.
 pub key_some : (k : Key) → 1 ≤ length (key_text k)
@@ -36,45 +40,38 @@ starts_begins (a ∷ x) (b ∷ l) e =
     let rest = starts_begins x l (and_right (eqb b a) (starts_with x l) e) in
     record { within = suc-le-suc rest.within; text = ap₂ ◌∷◌ (eqb-true b a (and_left _ _ e)) rest.text }
 
-pub starts_short : (x l : List ℕ) → length l < length x → false ≡ starts_with x l
-starts_short x l h = refuse (starts_with x l) refl
-  where
-    refuse : (b : Bool) → starts_with x l ≡ b → false ≡ b
-    refuse true e = absurd (omega (arith, (starts_begins x l e).within))
-    refuse false e = refl
+-- It is the library's test of the front of a text.
+eqb_swap : (a b : ℕ) → eqb a b ≡ eqb b a
+eqb_swap a b = grind arith
 
--- Past a text's end only no bytes stand.
-pub starts_past : (x l : List ℕ) (at : ℕ) → length l < at → eqb (length x) 0 ≡ starts_with x (drop at l)
+pub starts_library : (x l : List ℕ) → starts_with x l ≡ pointwise eqb x (take (length x) l)
 unfolding starts_with
-starts_past [] l at h = refl
-starts_past (a ∷ x) l at h = rw (drop_of_length-le l {i = at} (omega arith), ne_eqb (suc (length x)) 0 (λ e. omega arith))
+starts_library [] l = refl
+starts_library (a ∷ x) [] = refl
+starts_library (a ∷ x) (b ∷ l) = rw (eqb_swap b a, starts_library x l) refl
 
--- A key found at the front, a key that is not there, and the six of them.
-module _ (k : Key) (x l : List ℕ) (other : ReadKey) (b : Bool) (e : b ≡ starts_with x l) where
-  pub found_key : b ≡ true → ReadKey.Found k (length x) ≡ found_or k x l other
-  found_key t = rw (← e, t)
+-- The key at the front is the first one whose text is there.
+map_cond : {A B : Type 0} (f : A → B) (b : Bool) (x : A) (o : Option A) → option_map f (cond b (Some x) o) ≡ cond b (Some (f x)) (option_map f o)
+map_cond f true x o = refl
+map_cond f false x o = refl
 
-  pub found_other : b ≡ false → other ≡ found_or k x l other
-  found_other t = rw (← e, t)
-
-pub found_six : (l : List ℕ) (a b c d e f : ReadKey) → a ≡ key_or Key.End l ReadKey.Bad → b ≡ key_or Key.Follow l a → c ≡ key_or Key.Floor l b
-    → d ≡ key_or Key.Cap l c → e ≡ key_or Key.Item l d → f ≡ key_or Key.Form l e → f ≡ key_at l
+pub key_by_find : (l : List ℕ) → key_at l ≡ option_map (λ k. record { key = k; len = length (key_text k) }) (find (λ k. starts_with (key_text k) l) every_key)
 unfolding key_at
-found_six l a b c d e f p q r s t u = rw (← p, ← q, ← r, ← s, ← t) u
+key_by_find l = simp map_cond
 
 -- What a key of n bytes says.
 pub record KeyHere (l : List ℕ) (k : Key) (n : ℕ) : Type 0 where
   pub size : n ≡ length (key_text k)
   pub begins : Begins (key_text k) l
 
-abbrev pub KeySays : List ℕ → ReadKey → Type 0
-KeySays l (ReadKey.Found k n) = KeyHere l k n
-KeySays l ReadKey.Bad = Unit
+abbrev pub KeySays : List ℕ → Option KeyToken → Type 0
+KeySays l (Some x) = KeyHere l x.key x.len
+KeySays l None = Unit
 
-or_says : (l : List ℕ) (k : Key) (other : ReadKey) → KeySays l other → KeySays l (key_or k l other)
+or_says : (l : List ℕ) (k : Key) (other : Option KeyToken) → KeySays l other → KeySays l (key_or k l other)
 or_says l k other o = says (starts_with (key_text k) l) refl
   where
-    says : (b : Bool) → starts_with (key_text k) l ≡ b → KeySays l (cond b (ReadKey.Found k (length (key_text k))) other)
+    says : (b : Bool) → starts_with (key_text k) l ≡ b → KeySays l (cond b (key_found k (length (key_text k))) other)
     says true e = record { size = refl; begins = starts_begins (key_text k) l e }
     says false e = o
 
@@ -85,11 +82,11 @@ key_says l =
     (or_says l Key.Item _ (or_says l Key.Cap _ (or_says l Key.Floor _ (or_says l Key.Follow _ (or_says l Key.End _ tt)))))
 
 -- What is read is what would be written.
-pub key_is_text : (l : List ℕ) (k : Key) (n : ℕ) → key_at l ≡ ReadKey.Found k n → KeyHere l k n
+pub key_is_text : (l : List ℕ) (k : Key) (n : ℕ) → key_at l ≡ key_found k n → KeyHere l k n
 key_is_text l k n e = subst (KeySays l) e (key_says l)
 
 -- What is written reads back.
-pub key_reads : (k : Key) (rest : List ℕ) → key_at (key_text k ++ rest) ≡ ReadKey.Found k (length (key_text k))
+pub key_reads : (k : Key) (rest : List ℕ) → key_at (key_text k ++ rest) ≡ key_found k (length (key_text k))
 unfolding key_at starts_with
 key_reads Key.Form rest = refl
 key_reads Key.Item rest = refl

@@ -1,3 +1,3 @@
 -- Why it is true, and what callers cite: the keys there and back.
 pub mod KeyTexts
-mod Compared
+pub mod Cells

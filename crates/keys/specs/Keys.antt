@@ -1,8 +1,8 @@
 -- The six keys: their texts, the key at the front of a text, and which key may come next; and the keys of lines that are only printed.
 -- Assumes nothing.
-use Rattle.std.specs.Prelude.{Bool, true, false, cond, ◌&&◌, List, [], ◌∷◌, ℕ, eqb, length, get_or}
+use Rattle.std.specs.Prelude.{Bool, true, false, cond, ◌&&◌, List, [], ◌∷◌, ℕ, eqb, length, get_or, Option, None, Some}
 use Rattle.keys.specs.declared.Key.{Key}
-use Rattle.keys.specs.declared.ReadKey.{ReadKey}
+use Rattle.keys.specs.declared.KeyToken.{KeyToken}
 
 -- "Every line is key=value": form= item= cap= floor= follow= end=
 abbrev pub key_text : Key → List ℕ
@@ -12,6 +12,10 @@ key_text Key.Cap = 99 ∷ 97 ∷ 112 ∷ 61 ∷ []
 key_text Key.Floor = 102 ∷ 108 ∷ 111 ∷ 111 ∷ 114 ∷ 61 ∷ []
 key_text Key.Follow = 102 ∷ 111 ∷ 108 ∷ 108 ∷ 111 ∷ 119 ∷ 61 ∷ []
 key_text Key.End = 101 ∷ 110 ∷ 100 ∷ 61 ∷ []
+
+-- The keys, in their order.
+abbrev pub every_key : List Key
+every_key = Key.Form ∷ Key.Item ∷ Key.Cap ∷ Key.Floor ∷ Key.Follow ∷ Key.End ∷ []
 
 -- "one line label=NAME:CLASS", "refused= with the number, at= with the place": label= refused= at=
 abbrev pub label_key : List ℕ
@@ -29,17 +33,21 @@ starts_with [] l = true
 starts_with (x ∷ xs) [] = false
 starts_with (x ∷ xs) (b ∷ l) = eqb b x && starts_with xs l
 
--- The key and the length of its text x, if that is at the front; else what is said of the other keys.
-abbrev pub found_or : Key → List ℕ → List ℕ → ReadKey → ReadKey
-found_or k x l other = cond (starts_with x l) (ReadKey.Found k (length x)) other
+-- The key k, of n bytes.
+abbrev pub key_found : Key → ℕ → Option KeyToken
+key_found k n = Some (record { key = k; len = n })
 
-abbrev pub key_or : Key → List ℕ → ReadKey → ReadKey
+-- The key and the length of its text x, if that is at the front; else what is said of the other keys.
+abbrev pub found_or : Key → List ℕ → List ℕ → Option KeyToken → Option KeyToken
+found_or k x l other = cond (starts_with x l) (key_found k (length x)) other
+
+abbrev pub key_or : Key → List ℕ → Option KeyToken → Option KeyToken
 key_or k l other = found_or k (key_text k) l other
 
-unfoldable pub key_at : List ℕ → ReadKey
+unfoldable pub key_at : List ℕ → Option KeyToken
 key_at l =
     key_or Key.Form l
-    (key_or Key.Item l (key_or Key.Cap l (key_or Key.Floor l (key_or Key.Follow l (key_or Key.End l ReadKey.Bad)))))
+    (key_or Key.Item l (key_or Key.Cap l (key_or Key.Floor l (key_or Key.Follow l (key_or Key.End l None)))))
 
 -- The keys are numbered in their order, from 0.
 abbrev pub key_number : Key → ℕ

@@ -1,2 +1,2 @@
--- Why it is true: what the tests of labels tell.
-pub mod Tested
+-- The search for a bad label has one answer.
+pub mod Unique

@@ -1,12 +1,16 @@
 -- Labels lent as two lists, levels and marks, for n items: the label of an item, that there are enough of them, and that a level is in range.
 -- Assumes nothing.
 use Rattle.std.specs.Prelude.{List, ℕ, ◌≤◌, length, get_or}
-use Rattle.classes.specs.Class.{top_level, class_of}
+use Rattle.classes.specs.Class.{top_level, class_of, lowest}
 use Rattle.classes.specs.declared.Class.{Class}
 
 -- The labels that a list of levels and a list of marks hold; past the end of a list there is zero.
 abbrev pub labels_in : List ℕ → List ℕ → ℕ → Class
 labels_in levels marks i = class_of (get_or levels i 0) (get_or marks i 0)
+
+-- The labels that a list of classes holds; past its end there is the lowest class.
+abbrev pub listed : List Class → ℕ → Class
+listed labels i = get_or labels i lowest
 
 -- The level of item i is at most 15.
 pub record LevelInRange (levels : List ℕ) (i : ℕ) : Type 0 where

@@ -11,31 +11,30 @@ use lib.Dec.{eqb}
 use lib.ListN.{length, take, drop, length-drop}
 use lib.Seq.{length-take-le}
 use borrow.Author.Tests.{eq-eqb, ne_eqb, eqb-true}
+use Rattle.std.specs.Prelude.{Option, Some, None}
 use Rattle.items.proofs.Names.{name_spelled}
 use Rattle.scans.specs.Ascii.{plus}
 use Rattle.scans.specs.Bytes.{byte_at, run_len}
 use Rattle.scans.proofs.Places.{byte_inside}
 use Rattle.tokens.specs.Tokens.{name_of_run, name_at}
-use Rattle.tokens.specs.declared.ReadName.{ReadName}
 use Rattle.tokens.proofs.Tokens.{name_is_name}
 use Rattle.lines.specs.Left.{left_found, names_before, after_name, left_from, left_at}
 use Rattle.lines.specs.declared.left.LeftSide.{LeftSide}
-use Rattle.lines.specs.declared.left.ReadLeft.{ReadLeft}
 
-pub before_before : (c k d n : ℕ) (x : ReadLeft) → names_before c k (names_before d n x) ≡ names_before (c + d) (k + n) x
-before_before c k d n ReadLeft.Bad = refl
-before_before c k d n (ReadLeft.Found x) = rw (add_assoc c d x.names, add_assoc k n x.len)
+pub before_before : (c k d n : ℕ) (x : Option LeftSide) → names_before c k (names_before d n x) ≡ names_before (c + d) (k + n) x
+before_before c k d n None = refl
+before_before c k d n (Some x) = rw (add_assoc c d x.names, add_assoc k n x.len)
 
-name_nil : name_at [] ≡ ReadName.Bad
+name_nil : name_at [] ≡ None
 unfolding name_of_run run_len
 name_nil = refl
 
 -- The rest of the left side counts only where a plus sign follows the name.
-after_agree : (more other : ℕ → ReadLeft) (l : List ℕ) (x : ReadName) → ((n : ℕ) → n < length l → more (n + 1) ≡ other (n + 1))
+after_agree : (more other : ℕ → Option LeftSide) (l : List ℕ) (x : Option ℕ) → ((n : ℕ) → n < length l → more (n + 1) ≡ other (n + 1))
     → after_name more l x ≡ after_name other l x
 unfolding after_name
-after_agree more other l ReadName.Bad f = refl
-after_agree more other l (ReadName.Found n) f = sign (eqb (byte_at (drop n l)) plus) refl
+after_agree more other l None f = refl
+after_agree more other l (Some n) f = sign (eqb (byte_at (drop n l)) plus) refl
   where
     sign : (b : Bool) → eqb (byte_at (drop n l)) plus ≡ b
         → cond b (names_before 1 (n + 1) (more (n + 1))) (left_found 1 n) ≡ cond b (names_before 1 (n + 1) (other (n + 1))) (left_found 1 n)
@@ -62,11 +61,11 @@ left_step (b ∷ l) =
     (λ n s. left_bound (length l) (length (drop (n + 1) (b ∷ l))) (drop (n + 1) (b ∷ l)) (omega (arith, length-drop (n + 1) (b ∷ l))) (le_refl _))
 
 -- No name; the last name; and a name with a plus sign behind it.
-pub left_bad : (l : List ℕ) → name_at l ≡ ReadName.Bad → left_at l ≡ ReadLeft.Bad
+pub left_bad : (l : List ℕ) → name_at l ≡ None → left_at l ≡ None
 unfolding after_name
 left_bad l e = left_step l ∙ rw e
 
-module _ (l : List ℕ) (n : ℕ) (e : name_at l ≡ ReadName.Found n) where
+module _ (l : List ℕ) (n : ℕ) (e : name_at l ≡ Some n) where
   pub left_last : (byte_at (drop n l) ≡ plus → ⊥) → left_at l ≡ left_found 1 n
   unfolding after_name
   left_last f = left_step l ∙ rw (e, ne_eqb (byte_at (drop n l)) plus f)
@@ -76,36 +75,36 @@ module _ (l : List ℕ) (n : ℕ) (e : name_at l ≡ ReadName.Found n) where
   left_more f = left_step l ∙ rw (e, eq-eqb (byte_at (drop n l)) plus f)
 
 -- What holds of one name, and of a name with a plus sign behind it and a left side of which it holds, holds of every left side that is read.
-module _ (P : List ℕ → ℕ → ℕ → Type 0) (one : (l : List ℕ) (n : ℕ) → name_at l ≡ ReadName.Found n → P l 1 n)
-    (more : (l : List ℕ) (n c k : ℕ) → name_at l ≡ ReadName.Found n → byte_at (drop n l) ≡ plus → P (drop (n + 1) l) c k → P l (1 + c) (n + 1 + k)) where
-  abbrev LeftSays : List ℕ → ReadLeft → Type 0
-  LeftSays l ReadLeft.Bad = Unit
-  LeftSays l (ReadLeft.Found x) = P l x.names x.len
+module _ (P : List ℕ → ℕ → ℕ → Type 0) (one : (l : List ℕ) (n : ℕ) → name_at l ≡ Some n → P l 1 n)
+    (more : (l : List ℕ) (n c k : ℕ) → name_at l ≡ Some n → byte_at (drop n l) ≡ plus → P (drop (n + 1) l) c k → P l (1 + c) (n + 1 + k)) where
+  abbrev LeftSays : List ℕ → Option LeftSide → Type 0
+  LeftSays l None = Unit
+  LeftSays l (Some x) = P l x.names x.len
 
-  more_says : (l : List ℕ) (n : ℕ) (x : ReadLeft) → name_at l ≡ ReadName.Found n → byte_at (drop n l) ≡ plus → LeftSays (drop (n + 1) l) x
+  more_says : (l : List ℕ) (n : ℕ) (x : Option LeftSide) → name_at l ≡ Some n → byte_at (drop n l) ≡ plus → LeftSays (drop (n + 1) l) x
       → LeftSays l (names_before 1 (n + 1) x)
-  more_says l n ReadLeft.Bad e f g = tt
-  more_says l n (ReadLeft.Found x) e f g = more l n x.names x.len e f g
+  more_says l n None e f g = tt
+  more_says l n (Some x) e f g = more l n x.names x.len e f g
 
   from_says : (f : ℕ) (l : List ℕ) → LeftSays l (left_from f l)
   unfolding left_from after_name
   from_says zero l = tt
   from_says (suc f) l = after (name_at l) refl (λ n. from_says f (drop (n + 1) l))
     where
-      after : (x : ReadName) → name_at l ≡ x → ((n : ℕ) → LeftSays (drop (n + 1) l) (left_from f (drop (n + 1) l)))
+      after : (x : Option ℕ) → name_at l ≡ x → ((n : ℕ) → LeftSays (drop (n + 1) l) (left_from f (drop (n + 1) l)))
           → LeftSays l (after_name (λ k. left_from f (drop k l)) l x)
-      after ReadName.Bad e g = tt
-      after (ReadName.Found n) e g = sign (eqb (byte_at (drop n l)) plus) refl
+      after None e g = tt
+      after (Some n) e g = sign (eqb (byte_at (drop n l)) plus) refl
         where
           sign : (b : Bool) → eqb (byte_at (drop n l)) plus ≡ b
               → LeftSays l (cond b (names_before 1 (n + 1) (left_from f (drop (n + 1) l))) (left_found 1 n))
           sign true d = more_says l n (left_from f (drop (n + 1) l)) e (eqb-true (byte_at (drop n l)) plus d) (g n)
           sign false d = one l n e
 
-  pub left_by : (l : List ℕ) (x : LeftSide) → left_at l ≡ ReadLeft.Found x → P l x.names x.len
+  pub left_by : (l : List ℕ) (x : LeftSide) → left_at l ≡ Some x → P l x.names x.len
   left_by l x e = subst (LeftSays l) e (from_says (length l) l)
 
-pub name_some : (l : List ℕ) (n : ℕ) → name_at l ≡ ReadName.Found n → 1 ≤ n
+pub name_some : (l : List ℕ) (n : ℕ) → name_at l ≡ Some n → 1 ≤ n
 name_some l n e =
     let here = name_is_name l n e in
     omega (arith, (name_spelled (take n l) here.name).least, length-take-le n l here.within)
@@ -115,7 +114,7 @@ pub record Stands (s : List ℕ) (at n : ℕ) : Type 0 where
   pub some : 1 ≤ n
   pub within : at + n ≤ length s
 
-pub name_stands : (s : List ℕ) (at n : ℕ) → name_at (drop at s) ≡ ReadName.Found n → Stands s at n
+pub name_stands : (s : List ℕ) (at n : ℕ) → name_at (drop at s) ≡ Some n → Stands s at n
 name_stands s at n e =
     let some = name_some (drop at s) n e in
     record { some = some; within = omega (arith, (name_is_name (drop at s) n e).within, length-drop at s) }
@@ -125,12 +124,12 @@ record LeftHere (l : List ℕ) (n : ℕ) : Type 0 where
   some : 1 ≤ n
   within : n ≤ length l
 
-left_here : (l : List ℕ) (x : LeftSide) → left_at l ≡ ReadLeft.Found x → LeftHere l x.len
+left_here : (l : List ℕ) (x : LeftSide) → left_at l ≡ Some x → LeftHere l x.len
 left_here =
     left_by (λ l c n. LeftHere l n) (λ l n e. record { some = name_some l n e; within = (name_is_name l n e).within })
     (λ l n c k e f g. record { some = omega arith; within = omega (arith, g.within, length-drop (n + 1) l, byte_inside l n (omega arith)) })
 
-pub left_stands : (s : List ℕ) (at : ℕ) (x : LeftSide) → left_at (drop at s) ≡ ReadLeft.Found x → Stands s at x.len
+pub left_stands : (s : List ℕ) (at : ℕ) (x : LeftSide) → left_at (drop at s) ≡ Some x → Stands s at x.len
 left_stands s at x e =
     let here = left_here (drop at s) x e in
     record { some = here.some; within = omega (arith, here.some, here.within, length-drop at s) }

@@ -1,16 +1,16 @@
 // The value of a line: what stands between its `=` and its LF.
 ghost use Rattle.std.specs.Prelude.{◌≡◌, ◌+◌, ◌≤◌, length, drop};
-ghost use Rattle.lines.specs.Values.{unnamed, form_at, item_at, cap_at, floor_at, follow_at, end_at, value_at, with_class, with_right};
+ghost use Rattle.lines.specs.Values.{form_at, item_at, cap_at, floor_at, follow_at, end_at, value_at, colon_behind, with_class, with_right};
 
-use super::left::{LeftSide, ReadLeft, read_left};
+use super::left::{LeftSide, read_left};
 use classes::Class;
 use keys::Key;
 use scans::{COLON, DIGIT_1, byte_at};
-use tokens::{ReadClass, ReadCount, ReadName, read_class, read_count, read_name};
+use tokens::{read_class, read_count, read_name};
 
 // A value: how many left names it has, an item's own included, and their length with the plus signs between them; the length of the right name;
 // the class; the count; and the length of the whole value. What a kind of line has not is zero.
-#[derive(Clone, Copy)]
+#[derive(Clone, Copy, Debug, PartialEq, Eq)]
 pub struct Value {
     pub names: usize,
     pub left: usize,
@@ -20,14 +20,20 @@ pub struct Value {
     pub len: usize,
 }
 
-#[derive(Clone, Copy)]
-pub enum ReadValue {
-    Found(Value),
-    Bad,
+impl Value {
+    // Nothing of what a value may have.
+    const EMPTY: Value = Value {
+        names: 0,
+        left: 0,
+        right: 0,
+        class: Class::LOWEST,
+        count: 0,
+        len: 0,
+    };
 }
 
 // The value of a key at a place.
-pub(crate) fn read_value(key: Key, s: &[u8], at: usize) -> ReadValue
+pub(crate) fn read_value(key: Key, s: &[u8], at: usize) -> Option<Value>
     ensures { result ≡ value_at key (drop at s.now) }
 {
     match key {
@@ -40,124 +46,102 @@ pub(crate) fn read_value(key: Key, s: &[u8], at: usize) -> ReadValue
     }
 }
 
-// A value without names.
-fn unnamed_value(count: u64, len: usize) -> ReadValue
-    ensures { result ≡ unnamed count len }
-{
-    ReadValue::Found(Value {
-        names: 0,
-        left: 0,
-        right: 0,
-        class: Class::LOWEST,
-        count,
-        len,
-    })
-}
-
-fn form_value(s: &[u8], at: usize) -> ReadValue
+#[tactic(auto, unfolding(crate::specs::Values::form_at))]
+fn form_value(s: &[u8], at: usize) -> Option<Value>
     ensures { result ≡ form_at (drop at s.now) }
 {
-    if byte_at(s, at) != DIGIT_1 {
-        return ReadValue::Bad;
-    }
-    unnamed_value(0, 1)
-}
-
-fn item_value(s: &[u8], at: usize) -> ReadValue
-    ensures { result ≡ item_at (drop at s.now) }
-{
-    let ReadName::Found(n) = read_name(s, at) else {
-        return ReadValue::Bad;
-    };
-    ReadValue::Found(Value {
-        names: 1,
-        left: n,
-        right: 0,
-        class: Class::LOWEST,
-        count: 0,
-        len: n,
+    (byte_at(s, at) == DIGIT_1).then_some(Value {
+        len: 1,
+        ..Value::EMPTY
     })
 }
 
-fn cap_value(s: &[u8], at: usize) -> ReadValue
+fn item_value(s: &[u8], at: usize) -> Option<Value>
+    ensures { result ≡ item_at (drop at s.now) }
+{
+    let n = read_name(s, at)?;
+    Some(Value {
+        names: 1,
+        left: n,
+        len: n,
+        ..Value::EMPTY
+    })
+}
+
+#[tactic(auto, using(crate::proofs::Told::name_ends))]
+fn cap_value(s: &[u8], at: usize) -> Option<Value>
     ensures { result ≡ cap_at (drop at s.now) }
 {
-    let ReadName::Found(n) = read_name(s, at) else {
-        return ReadValue::Bad;
-    };
+    let n = read_name(s, at)?;
     with_class(s, at, LeftSide { names: 1, len: n })
 }
 
-fn floor_value(s: &[u8], at: usize) -> ReadValue
+#[tactic(auto, using(crate::proofs::Told::left_ends))]
+fn floor_value(s: &[u8], at: usize) -> Option<Value>
     ensures { result ≡ floor_at (drop at s.now) }
 {
-    let ReadLeft::Found(left) = read_left(s, at) else {
-        return ReadValue::Bad;
-    };
+    let left = read_left(s, at)?;
     with_class(s, at, left)
 }
 
-fn follow_value(s: &[u8], at: usize) -> ReadValue
+#[tactic(auto, using(crate::proofs::Told::left_ends))]
+fn follow_value(s: &[u8], at: usize) -> Option<Value>
     ensures { result ≡ follow_at (drop at s.now) }
 {
-    let ReadLeft::Found(left) = read_left(s, at) else {
-        return ReadValue::Bad;
-    };
+    let left = read_left(s, at)?;
     with_right(s, at, left)
 }
 
-fn end_value(s: &[u8], at: usize) -> ReadValue
+fn end_value(s: &[u8], at: usize) -> Option<Value>
     ensures { result ≡ end_at (drop at s.now) }
 {
-    let ReadCount::Found(count) = read_count(s, at) else {
-        return ReadValue::Bad;
-    };
-    unnamed_value(count.value, count.len)
+    let count = read_count(s, at)?;
+    Some(Value {
+        count: count.value,
+        len: count.len,
+        ..Value::EMPTY
+    })
+}
+
+// The place behind the colon behind a left side at a place. None where no colon stands there.
+fn behind_colon(s: &[u8], at: usize, left: LeftSide) -> Option<usize>
+    requires { at + left.len ≤ length s.now }
+    ensures { result ≡ colon_behind (at + left.len) s.now }
+{
+    let place = at + left.len;
+    (byte_at(s, place) == COLON).then_some(place + 1)
 }
 
 // A left side at a place, a colon and a class.
-fn with_class(s: &[u8], at: usize, left: LeftSide) -> ReadValue
+#[tactic(auto, using(crate::proofs::Told::class_ends), unfolding(crate::specs::Values::with_class))]
+fn with_class(s: &[u8], at: usize, left: LeftSide) -> Option<Value>
     requires { at + left.len ≤ length s.now }
     ensures { result ≡ with_class left.names left.len (drop at s.now) }
 {
-    let colon = at + left.len;
-    if byte_at(s, colon) != COLON {
-        return ReadValue::Bad;
-    }
-    let ReadClass::Found(token) = read_class(s, colon + 1) else {
-        return ReadValue::Bad;
-    };
-    let class = token.class;
+    let token = read_class(s, behind_colon(s, at, left)?)?;
     let len = left.len + 1 + token.len;
-    ReadValue::Found(Value {
+    Some(Value {
         names: left.names,
         left: left.len,
-        right: 0,
-        class,
-        count: 0,
+        class: token.class,
         len,
+        ..Value::EMPTY
     })
 }
 
 // A left side at a place, a colon and a name.
-fn with_right(s: &[u8], at: usize, left: LeftSide) -> ReadValue
+#[tactic(auto, using(crate::proofs::Told::name_ends), unfolding(crate::specs::Values::with_right))]
+fn with_right(s: &[u8], at: usize, left: LeftSide) -> Option<Value>
     requires { at + left.len ≤ length s.now }
     ensures { result ≡ with_right left.names left.len (drop at s.now) }
 {
-    let colon = at + left.len;
-    if byte_at(s, colon) != COLON {
-        return ReadValue::Bad;
-    }
-    let ReadName::Found(n) = read_name(s, colon + 1) else {
-        return ReadValue::Bad;
-    };
+    let n = read_name(s, behind_colon(s, at, left)?)?;
     let len = left.len + 1 + n;
-    ReadValue::Found(Value {
+    Some(Value {
         names: left.names,
         left: left.len,
         right: n,
-        class: Class::LOWEST,
-        count: 0,
         len,
+        ..Value::EMPTY
     })
 }

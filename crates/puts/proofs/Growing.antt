@@ -1,75 +1,70 @@
--- How a text grows by puts one behind the other: nothing, one piece, and two texts in a row, which are one. The last answer alone tells whether there was
--- room for the whole text. They rest on the laws of what a put leaves in a buffer.
+-- How a text grows by puts one behind the other: one piece, and two texts in a row, which are one; where the first has no room, neither have both. They rest on
+-- the laws of what a put leaves in a buffer.
 -- Assumes nothing.
 use mathlib.Core.Path.{◌≡◌, refl, sym, ◌∙◌}
-use mathlib.Core.List.{List, [], ◌++◌}
+use mathlib.Core.List.{List, ◌++◌}
 use Prim.Native.Nat.{ℕ, ◌+◌, ◌≤◌, ◌<◌}
 use native.Mathlib.Decide.{dec_le}
-use native.Mathlib.Nat.{zero-add, add-zero}
+use native.Mathlib.Nat.{zero-add}
 use native.Mathlib.Omega.{arith}
 use lib.ListN.{length, take, length-append}
 use lib.Seq.{length-take-le}
-use Rattle.laws.proofs.Over.{over_none, over_over, take_over}
+use Rattle.std.specs.Prelude.{Option, Some, None, IsSome}
+use Rattle.laws.specs.Over.{over}
+use Rattle.laws.proofs.Over.{over_length, over_over, take_over}
 use Rattle.puts.specs.Writing.{Put}
-use Rattle.puts.specs.InnerGrowing.{Grown, Front}
-use Rattle.puts.proofs.Placed.{put_buffer, put_next, put_full, put_sized}
+use Rattle.puts.specs.InnerGrowing.{Grown, whole, full, Front}
+use Rattle.puts.proofs.Placed.{put_buffer, put_next, put_untouched, put_full}
 
--- Nothing, and one piece.
-pub grown_none : {d : List ℕ} {at : ℕ} → Grown d at [] d at
-grown_none {d} {at} = record { sized = refl; there = λ h. sym (over_none d at); next = λ h. sym (add-zero at); full = λ h. omega arith }
+grown_there : {d : List ℕ} {at : ℕ} {x d' : List ℕ} {r : ℕ} → at + length x ≤ length d → d' ≡ over d at x → r ≡ at + length x → Grown d at x d' (Some r)
+grown_there h e f = rw (e, f) (whole h)
 
-pub put_grown : {d : List ℕ} {at : ℕ} {x d' : List ℕ} {r : ℕ} → Put d at x d' r → Grown d at x d' r
-put_grown p = record { sized = put_sized p; there = put_buffer p; next = put_next p; full = λ h. omega (arith, put_full p h) }
-
--- Two texts in a row are one.
-pub grown_grown : {d : List ℕ} {at : ℕ} {x d₁ : List ℕ} {r₁ : ℕ} {y d₂ : List ℕ} {r₂ : ℕ} → Grown d at x d₁ r₁ → Grown d₁ r₁ y d₂ r₂
-    → Grown d at (x ++ y) d₂ r₂
-grown_grown {d} {at} {x} {d₁} {r₁} {y} {d₂} {r₂} p q = record {
-  sized = q.sized ∙ p.sized;
-  there = λ h. q.there (second h) ∙ rw (p.there (first h), p.next (first h)) (over_over d at x (first h) y);
-  next = λ h. omega (arith, q.next (second h), p.next (first h), length-append x y);
-  full = λ h. omega (arith, q.full (after h (dec_le (at + length x) (length d))), p.sized);
-}
+-- One piece.
+pub put_grown : {d : List ℕ} {at : ℕ} {x d' : List ℕ} {r : Option ℕ} → Put d at x d' r → Grown d at x d' r
+put_grown {d} {at} {x} {d'} {r} p = by (dec_le (at + length x) (length d))
   where
-    first : at + length (x ++ y) ≤ length d → at + length x ≤ length d
-    first h = omega (arith, length-append x y)
+    by : Dec (at + length x ≤ length d) → Grown d at x d' r
+    by (yes h) = rw (put_buffer p h, put_next p h) (whole h)
+    by (no h) =
+        let past : length d < at + length x = omega arith in
+        rw (put_untouched p past, put_full p past) (full refl past)
 
-    second : at + length (x ++ y) ≤ length d → r₁ + length y ≤ length d₁
-    second h = omega (arith, length-append x y, p.next (first h), p.sized)
+-- Two texts in a row are one, and where the first has no room there is none for both.
+pub grown_grown : {d : List ℕ} {at : ℕ} {x d₁ : List ℕ} {r₁ : ℕ} {y d₂ : List ℕ} {r₂ : Option ℕ} → Grown d at x d₁ (Some r₁) → Grown d₁ r₁ y d₂ r₂
+    → Grown d at (x ++ y) d₂ r₂
+grown_grown {d} {at} {x} {y = y} (whole h) (whole g) =
+    grown_there (omega (arith, length-append x y, over_length d at x h)) (over_over d at x h y) (omega (arith, length-append x y))
+grown_grown {d} {at} {x} {y = y} (whole h) (full e g) = full (e ∙ over_length d at x h) (omega (arith, length-append x y, over_length d at x h))
 
-    after : length d < at + length (x ++ y) → Dec (at + length x ≤ length d) → length d₁ < r₁ + length y
-    after h (yes s) = omega (arith, length-append x y, p.next s, p.sized)
-    after h (no s) = omega (arith, p.full (omega arith), p.sized)
+pub grown_stops : {d : List ℕ} {at : ℕ} {x : List ℕ} (y : List ℕ) {d' : List ℕ} {r : Option ℕ} → r ≡ None → Grown d at x d' None → Grown d at (x ++ y) d' r
+grown_stops {x = x} y none (full e h) = rw none (full e (omega (arith, length-append x y)))
 
-pub grown_put : {d : List ℕ} {at : ℕ} {x d₁ : List ℕ} {r₁ : ℕ} {y d₂ : List ℕ} {r₂ : ℕ} → Grown d at x d₁ r₁ → Put d₁ r₁ y d₂ r₂
+-- The same where what is put next is one piece, and where the first piece had no room.
+pub grown_put : {d : List ℕ} {at : ℕ} {x d₁ : List ℕ} {r₁ : ℕ} {y d₂ : List ℕ} {r₂ : Option ℕ} → Grown d at x d₁ (Some r₁) → Put d₁ r₁ y d₂ r₂
     → Grown d at (x ++ y) d₂ r₂
 grown_put p q = grown_grown p (put_grown q)
 
--- A text from the front of a buffer on: it stands there, or has no room in the buffer.
-module _ {e x d : List ℕ} {r : ℕ} (g : Grown e 0 x d r) where
-  pub front_there : 0 + length x ≤ length e → Front x d r
-  front_there room = record {
-    within = omega (arith, long, g.sized);
-    len = long;
-    text = rw (g.there room, long) (rw zero-add at (take_over e 0 x room));
-  }
-    where
-      long : r ≡ length x
-      long = omega (arith, g.next room)
+pub put_stops : {d : List ℕ} {at : ℕ} {x : List ℕ} (y : List ℕ) {d' : List ℕ} {r : Option ℕ} → r ≡ None → Put d at x d' None → Grown d at (x ++ y) d' r
+put_stops y none p = grown_stops y none (put_grown p)
 
-  pub grown_front : r ≤ length e → Front x d r
-  grown_front h = front (dec_le (0 + length x) (length e))
-    where
-      front : Dec (0 + length x ≤ length e) → Front x d r
-      front (yes room) = front_there room
-      front (no room) = absurd (omega (arith, g.full (omega arith)))
+pub grown_sized : {d : List ℕ} {at : ℕ} {x d' : List ℕ} {r : Option ℕ} → Grown d at x d' r → length d' ≡ length d
+grown_sized {d} {at} {x} (whole h) = over_length d at x h
+grown_sized (full e h) = e
 
-  pub grown_over : length e < r → length e < length x
-  grown_over h = over (dec_le (0 + length x) (length e))
-    where
-      over : Dec (0 + length x ≤ length e) → length e < length x
-      over (yes room) = absurd (omega (arith, g.next room))
-      over (no room) = omega arith
+-- A text from the front of a buffer on stands there, or has no room in the buffer.
+pub grown_front : {e x d : List ℕ} {r : ℕ} → Grown e 0 x d (Some r) → Front x d r
+grown_front {e} {x} (whole h) = record {
+  within = omega (arith, over_length e 0 x h);
+  len = zero-add (length x);
+  text = take_over e 0 x h;
+}
+
+pub grown_over : {e x d : List ℕ} → Grown e 0 x d None → length e < length x
+grown_over (full s h) = omega arith
+
+pub grown_some : {e x d : List ℕ} {r : Option ℕ} → Grown e 0 x d r → length x ≤ length e → IsSome r
+grown_some (whole h) room = refl
+grown_some (full s h) room = absurd (omega arith)
 
 -- A part of a buffer that is a text at its front is as long as that.
 pub front_counted : {x d : List ℕ} {r : ℕ} → Front x d r → r ≡ length (take r d)

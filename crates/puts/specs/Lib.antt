@@ -1,5 +1,3 @@
--- What the contracts of `puts` cite: Writing is what a put leaves in a buffer; InnerDigits is of digits within this crate, and InnerGrowing of puts one
--- behind the other.
+-- What the contracts of `puts` cite: Writing is what a put leaves in a buffer, and InnerGrowing is of puts one behind the other.
 pub mod Writing
-pub mod InnerDigits
 pub mod InnerGrowing

@@ -1,6 +1,7 @@
 -- What a table holds after one more item, and the left places of a rule. The items before it are as they were. They rest on the laws of a put and of looking up
 -- a name.
 -- Assumes nothing.
+use Rattle.std.specs.Prelude.{None, Ok}
 use mathlib.Core.Path.{◌≡◌, sym, ap, ◌∙◌}
 use mathlib.Core.Bool.{true}
 use mathlib.Core.List.{List}
@@ -17,7 +18,6 @@ use Rattle.refusals.specs.Sizes.{most_items, most_left}
 use Rattle.items.specs.Names.{name_room, is_name}
 use Rattle.items.specs.Table.{entry_byte, NameAt, NewAt, ItemsOk}
 use Rattle.items.specs.Lookup.{find_in}
-use Rattle.items.specs.declared.Found.{Found}
 use Rattle.items.proofs.Names.{name_spelled}
 use Rattle.items.proofs.Lookup.{HasName, find_absent}
 use Rattle.items.proofs.Counted.{SameItems, items_counted}
@@ -67,7 +67,7 @@ module _ (t : List ℕ) (n : ℕ) (name : List ℕ) (e : is_name name ≡ true) 
         over_behind t (n * name_room) name fits i (omega (arith, short)) ∙ spare.zeros i (omega arith);
   }
 
-  pub added_ok : ItemsOk t n → n < most_items → find_in t n name ≡ Found.Absent → ItemsOk added (n + 1)
+  pub added_ok : ItemsOk t n → n < most_items → find_in t n name ≡ Ok None → ItemsOk added (n + 1)
   added_ok o few new = record {
     size = omega arith;
     room = omega (arith, added_length);

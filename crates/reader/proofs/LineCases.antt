@@ -1,6 +1,7 @@
 -- What one line does: it is refused, or it is a form line, an item, a rule or the end, and then every test of it was passed; and so line after
 -- line. They rest on the definition of a step, answer by answer.
 -- Assumes nothing.
+use Rattle.std.specs.Prelude.{Some, None, Ok, Err}
 use mathlib.Core.Path.{◌≡◌, refl}
 use mathlib.Core.Bool.{Bool, true, false, cond, ◌&&◌}
 use mathlib.Core.List.{List, [], ◌∷◌}
@@ -9,18 +10,16 @@ use native.Mathlib.Omega.{arith}
 use lib.Dec.{ltb, leb, eqb}
 use lib.ListN.{length, drop}
 use borrow.Author.Tests.{ltb-true, leb-true, eqb-true}
+use Rattle.std.specs.Prelude.{Option, Some, None}
 use Rattle.laws.proofs.Bools.{true_not_false, and_left, and_right}
 use Rattle.refusals.specs.Sizes.{most_items, most_rules, most_left}
 use Rattle.refusals.specs.declared.Fault.{Fault}
-use Rattle.items.specs.Lookup.{find_in}
-use Rattle.items.specs.declared.Found.{Found}
+use Rattle.items.specs.Lookup.{Found, find_in}
 use Rattle.keys.specs.Keys.{key_number, next_allowed}
 use Rattle.keys.specs.declared.Key.{Key}
 use Rattle.lines.specs.Lines.{line_at, line_len}
 use Rattle.lines.specs.declared.Line.{Line}
-use Rattle.lines.specs.declared.ReadLine.{ReadLine}
 use Rattle.lines.proofs.Told.{LineHere, line_here}
-use Rattle.reader.specs.declared.ReadBook.{ReadBook}
 use Rattle.reader.specs.Names.{is_item, every_item, rising}
 use Rattle.reader.specs.Lines.{State, Result, result_of, Turn, on, stop, refused_at, refuse, head_of, counted, item_name, is_absent, with_item, item_step, rule_kind, left_places, left_numbers, right_found, with_rule, all_found, rule_step, end_step, key_step, line_step, step}
 use Rattle.reader.specs.Reading.{go_on, read_from}
@@ -43,7 +42,7 @@ module _ (st : State) (l : List ℕ) (x : Line) where
     pub row : NextRow st.counts.after 1
     pub value : ItemValue (drop x.from l) x.value
     pub few : st.counts.items < most_items
-    pub new : find_in st.names st.counts.items (item_name l x) ≡ Found.Absent
+    pub new : find_in st.names st.counts.items (item_name l x) ≡ Ok None
 
   pub record RuleRead : Type 0 where
     pub stands : LineHere l x
@@ -81,12 +80,12 @@ pub record Cases (st : State) (l : List ℕ) (P : State → ℕ → Type 0) (Q :
   pub form : (x : Line) → FormRead st l x → P (form_next st) (line_len x)
   pub item : (x : Line) → ItemRead st l x → P (with_item st l x) (line_len x)
   pub rule : (x : Line) → RuleRead st l x → P (with_rule st l x) (line_len x)
-  pub end : (x : Line) → EndRead st l x → Q (result_of st (ReadBook.Book (head_of st.counts)))
+  pub end : (x : Line) → EndRead st l x → Q (result_of st (Ok (head_of st.counts)))
 
-absent_is : (x : Found) → is_absent x ≡ true → x ≡ Found.Absent
-absent_is (Found.At i) e = absurd (true_not_false e refl)
-absent_is Found.Absent e = refl
-absent_is (Found.Refused r) e = absurd (true_not_false e refl)
+absent_is : (x : Found) → is_absent x ≡ true → x ≡ Ok None
+absent_is (Ok (Some i)) e = absurd (true_not_false e refl)
+absent_is (Ok None) e = refl
+absent_is (Err r) e = absurd (true_not_false e refl)
 
 module _ (st : State) (l : List ℕ) (P : State → ℕ → Type 0) (Q : Result → Type 0) (cases : Cases st l P Q) (x : Line) (stands : LineHere l x) (here : LineParts l x) where
   item_turn : x.key ≡ Key.Item → NextRow st.counts.after 1 → ItemValue (drop x.from l) x.value → TurnSays P Q (item_step st l x)
@@ -154,7 +153,7 @@ module _ (st : State) (l : List ℕ) (P : State → ℕ → Type 0) (Q : Result 
   end_turn key row value = count (eqb x.value.count st.counts.lines) refl
     where
       all : x.value.count ≡ st.counts.lines → (b : Bool) → eqb (length l) (line_len x) ≡ b
-          → TurnSays P Q (cond b (stop (result_of st (ReadBook.Book (head_of st.counts))))
+          → TurnSays P Q (cond b (stop (result_of st (Ok (head_of st.counts))))
           (stop (result_of st (refused_at Fault.EndCount (st.counts.lines + 2)))))
       all h true e =
           cases.end x
@@ -163,7 +162,7 @@ module _ (st : State) (l : List ℕ) (P : State → ℕ → Type 0) (Q : Result 
 
       count : (b : Bool) → eqb x.value.count st.counts.lines ≡ b
           → TurnSays P Q (cond b
-          (cond (eqb (length l) (line_len x)) (stop (result_of st (ReadBook.Book (head_of st.counts))))
+          (cond (eqb (length l) (line_len x)) (stop (result_of st (Ok (head_of st.counts))))
           (stop (result_of st (refused_at Fault.EndCount (st.counts.lines + 2)))))
           (refuse st Fault.EndCount))
       count true e = all (eqb-true x.value.count st.counts.lines e) (eqb (length l) (line_len x)) refl
@@ -182,11 +181,11 @@ module _ (st : State) (l : List ℕ) (P : State → ℕ → Type 0) (Q : Result 
       rule_turn (rw e) (rw e) (rw e (next_row st.counts.after 3 f)) (rw e (follow_value (drop x.from l) x.value (rw e at here.value)))
   key_turn Key.End e f = end_turn e (next_row st.counts.after 4 f) (end_value (drop x.from l) x.value (rw e at here.value))
 
-line_turn : (st : State) (l : List ℕ) (P : State → ℕ → Type 0) (Q : Result → Type 0) → Cases st l P Q → (y : ReadLine) → line_at l ≡ y
+line_turn : (st : State) (l : List ℕ) (P : State → ℕ → Type 0) (Q : Result → Type 0) → Cases st l P Q → (y : Option Line) → line_at l ≡ y
     → TurnSays P Q (line_step st l y)
 unfolding line_step
-line_turn st l P Q cases ReadLine.Bad e = cases.refused _ _ (omega arith)
-line_turn st l P Q cases (ReadLine.Found x) e = allowed (next_allowed st.counts.after (key_number x.key)) refl
+line_turn st l P Q cases None e = cases.refused _ _ (omega arith)
+line_turn st l P Q cases (Some x) e = allowed (next_allowed st.counts.after (key_number x.key)) refl
   where
     allowed : (b : Bool) → next_allowed st.counts.after (key_number x.key) ≡ b
         → TurnSays P Q (cond b (key_step x.key st l x) (refuse st Fault.Order))

@@ -1,6 +1,8 @@
 -- Names looked up in the item table: the bytes of a name, the right name, left names one after the other, and whether left places rise. They rest
 -- on the laws of searches and of what a put leaves in a buffer.
 -- Assumes nothing.
+use Rattle.std.proofs.lemmas.Option.{none-some}
+use Rattle.std.specs.Prelude.{Some, None, Ok, Err, Option}
 use mathlib.Core.Path.{◌≡◌, refl, sym, ap, ◌∙◌}
 use mathlib.Core.Bool.{Bool, true, false, ◌&&◌}
 use mathlib.Core.List.{List, [], ◌∷◌}
@@ -8,31 +10,29 @@ use Prim.Native.Nat.{ℕ, suc, ◌+◌, ◌-◌, ◌≤◌, ◌<◌, min}
 use native.Mathlib.Decide.{dec_le}
 use native.Mathlib.Omega.{arith}
 use lib.Dec.{ltb}
-use lib.ListN.{length, get_or, set, take, drop, drop_of_length-le, length-drop, length-set}
+use lib.ListN.{length, get_or, set, take, drop, drop_of_length-le, length-drop, length-set, replicate}
 use lib.Seq.{take_all, drop-drop}
 use mir.Syntax.{w64}
 use mir.Val.{Fits}
 use borrow.Author.Tests.{eq-eqb, ne_eqb, lt-ltb, ltb-true}
 use Rattle.laws.specs.Every.{every_below}
-use Rattle.laws.proofs.Bools.{true_not_false}
 use Rattle.laws.proofs.Every.{every_all, every_at}
 use Rattle.laws.specs.Over.{over}
 use Rattle.laws.proofs.Over.{over_none, set_over, over_over}
-use Rattle.refusals.specs.Sizes.{most_text}
+use Rattle.refusals.specs.Sizes.{most_text, most_left}
 use Rattle.scans.specs.Bytes.{name_byte, run_len}
 use Rattle.scans.proofs.Runs.{run_le}
-use Rattle.items.specs.Lookup.{said_found, find_in, FindSays}
-use Rattle.items.specs.declared.Found.{Found}
+use Rattle.items.specs.Lookup.{Found, said_found, find_in, FindSays}
 use Rattle.items.proofs.Lookup.{find_told}
 use Rattle.reader.specs.Names.{is_item, item_number, every_item, numbers_of, rising}
-use Rattle.reader.specs.Lines.{right_item_at}
+use Rattle.reader.specs.Lines.{right_item_at, left_places}
 use Rattle.reader.specs.InnerAdding.{LookReady, LooksUp}
 
 -- What is not At is no item.
-pub not_item : (x : Found) → ((i : ℕ) → x ≡ Found.At i → ⊥) → is_item x ≡ false
-not_item (Found.At i) h = absurd (h i refl)
-not_item Found.Absent h = refl
-not_item (Found.Refused r) h = refl
+pub not_item : (x : Found) → ((i : ℕ) → x ≡ Ok (Some i) → ⊥) → is_item x ≡ false
+not_item (Ok (Some i)) h = absurd (h i refl)
+not_item (Ok None) h = refl
+not_item (Err r) h = refl
 
 -- The part of a text that is lent has the bytes at a place, as many as there are.
 pub part_at : (s : List ℕ) (at len : ℕ) {from size : ℕ} → from ≡ min at (length s) → size ≡ min len (length s - from)
@@ -56,7 +56,7 @@ pub found_at : (s : List ℕ) (at len : ℕ) (t : List ℕ) (n : ℕ) {from size
 found_at s at len t n e f g = find_told g ∙ ap (find_in t n) (part_at s at len e f)
 
 -- The right name.
-pub right_none : (t : List ℕ) (n len : ℕ) (l : List ℕ) → len ≡ 0 → Found.At 0 ≡ right_item_at t n len l
+pub right_none : (t : List ℕ) (n len : ℕ) (l : List ℕ) → len ≡ 0 → Ok (Some 0) ≡ right_item_at t n len l
 unfolding right_item_at
 right_none t n len l e = rw (eq-eqb len 0 e)
 
@@ -101,25 +101,24 @@ over_next : (d : List ℕ) (k b : ℕ) (x : List ℕ) → k < length d → over 
 over_next d k b x h = rw (set_over d k b h) (over_over d k (b ∷ []) (omega arith) x)
 
 -- Left names looked up one after the other: k of them are, and the next one stands at `place`.
-pub record Looking (text : List ℕ) (at count : ℕ) (t : List ℕ) (n : ℕ) (left₀ left : List ℕ) (place k : ℕ) : Type 0 where
+pub record Looking (text : List ℕ) (at count : ℕ) (t : List ℕ) (n : ℕ) (left : List ℕ) (place k : ℕ) : Type 0 where
   pub within : k ≤ count
   pub near : place ≤ most_text + k
-  pub sized : length left ≡ length left₀
+  pub sized : length left ≡ most_left
   pub told : every_item t n (count - k) (drop place text) ≡ every_item t n count (drop at text)
-  pub items : over left k (numbers_of t n (count - k) (drop place text)) ≡ over left₀ 0 (numbers_of t n count (drop at text))
+  pub items : over left k (numbers_of t n (count - k) (drop place text)) ≡ left_places (numbers_of t n count (drop at text))
 
-pub looking_none : {text : List ℕ} {at count : ℕ} {t : List ℕ} {n : ℕ} {left : List ℕ} → LookReady text at count left
-    → Looking text at count t n left left at 0
-looking_none {count = count} r =
+pub looking_none : {text : List ℕ} {at count : ℕ} (t : List ℕ) (n : ℕ) → LookReady text at count → Looking text at count t n (replicate most_left 0) at 0
+looking_none {count = count} t n r =
     let all : count - 0 ≡ count = omega arith in
     record { within = omega arith; near = omega (arith, r.place); sized = refl; told = rw all; items = rw all }
 
-pub looking_room : {text : List ℕ} {at count : ℕ} {t : List ℕ} {n : ℕ} {left₀ left : List ℕ} {place k : ℕ}
-    → Looking text at count t n left₀ left place k → LookReady text at count left₀ → k < count → k < length left
-looking_room w r h = omega (arith, w.sized, r.few, r.room)
+pub looking_room : {text : List ℕ} {at count : ℕ} {t : List ℕ} {n : ℕ} {left : List ℕ} {place k : ℕ}
+    → Looking text at count t n left place k → LookReady text at count → k < count → k < length left
+looking_room w r h = omega (arith, w.sized, r.few)
 
-module _ {text : List ℕ} {at count : ℕ} {t : List ℕ} {n : ℕ} {left₀ left : List ℕ} {place k : ℕ}
-    (w : Looking text at count t n left₀ left place k) (r : LookReady text at count left₀) (h : k < count) {len : ℕ}
+module _ {text : List ℕ} {at count : ℕ} {t : List ℕ} {n : ℕ} {left : List ℕ} {place k : ℕ}
+    (w : Looking text at count t n left place k) (r : LookReady text at count) (h : k < count) {len : ℕ}
     (e : len ≡ run_len name_byte (drop place text)) where
   next : count - k ≡ suc (count - (k + 1))
   next = omega arith
@@ -145,13 +144,13 @@ module _ {text : List ℕ} {at count : ℕ} {t : List ℕ} {n : ℕ} {left₀ le
     unfolding numbers_of
     numbers = rw (next, first, rest)
 
-    pub looking_absent : ((i : ℕ) → x ≡ Found.At i → ⊥) → LooksUp t n count (drop at text) left₀ false left
+    pub looking_absent : ((i : ℕ) → x ≡ Ok (Some i) → ⊥) → LooksUp t n count (drop at text) None
     looking_absent g = record {
       told = sym (sym w.told ∙ step ∙ rw (not_item x g));
-      items = λ z. absurd (true_not_false z refl);
+      items = λ left e. absurd (none-some left e);
     }
 
-    pub looking_more : {i : ℕ} → x ≡ Found.At i → Looking text at count t n left₀ (set left k i) (place + (len + 1)) (k + 1)
+    pub looking_more : {i : ℕ} → x ≡ Ok (Some i) → Looking text at count t n (set left k i) (place + (len + 1)) (k + 1)
     looking_more {i} g = record {
       within = omega arith;
       near = omega (arith, e, run_le name_byte (drop place text), length-drop place text, r.text, w.near);
@@ -160,9 +159,12 @@ module _ {text : List ℕ} {at count : ℕ} {t : List ℕ} {n : ℕ} {left₀ le
       items = over_next left k i _ (looking_room w r h) ∙ ap (over left k) (sym (rw g at numbers)) ∙ w.items;
     }
 
-pub looking_all : {text : List ℕ} {at count : ℕ} {t : List ℕ} {n : ℕ} {left₀ left : List ℕ} {place k : ℕ}
-    → Looking text at count t n left₀ left place k → count ≤ k → LooksUp t n count (drop at text) left₀ true left
+pub looking_all : {text : List ℕ} {at count : ℕ} {t : List ℕ} {n : ℕ} {left : List ℕ} {place k : ℕ}
+    → Looking text at count t n left place k → count ≤ k → LooksUp t n count (drop at text) (Some left)
 unfolding every_item numbers_of
-looking_all {text} {at} {count} {t} {n} {left₀} {left} {place} {k} w h =
+looking_all {text} {at} {count} {t} {n} {left} {place} {k} w h =
     let none : count - k ≡ 0 = omega arith in
-    record { told = rw none at w.told; items = λ z. sym (over_none left k) ∙ rw none at w.items }
+    record { told = rw none at w.told; items = λ l e. same e ∙ sym (over_none left k) ∙ rw none at w.items }
+  where
+    same : {l : List ℕ} → ◌≡◌ {A = Option (List ℕ)} (Some left) (Some l) → l ≡ left
+    same e = cc

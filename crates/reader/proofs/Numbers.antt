@@ -1,6 +1,7 @@
 -- The items that a rule's names are: those of the left side, which is accepted where they are found and rise, and the right one. They rest on the
 -- laws of looking up a name.
 -- Assumes nothing.
+use Rattle.std.specs.Prelude.{Some, None, Ok, Err}
 use mathlib.Core.Path.{◌≡◌, refl, sym, ap, ◌∙◌}
 use mathlib.Core.Bool.{true}
 use mathlib.Core.List.{List}
@@ -14,8 +15,7 @@ use Rattle.laws.proofs.Bools.{true_not_false, and_left, and_right}
 use Rattle.laws.proofs.Every.{every_at}
 use Rattle.classes.specs.Class.{top_level}
 use Rattle.refusals.specs.Sizes.{most_left}
-use Rattle.items.specs.Lookup.{find_in}
-use Rattle.items.specs.declared.Found.{Found}
+use Rattle.items.specs.Lookup.{Found, find_in}
 use Rattle.items.proofs.Lookup.{find_lowest}
 use Rattle.accepts.specs.Accepted.{PlaceAccepted, RuleAccepted}
 use Rattle.tokens.proofs.Tokens.{class_is_text}
@@ -28,10 +28,10 @@ use Rattle.reader.proofs.LineFacts.{names_some}
 use Rattle.reader.proofs.LineCases.{RuleRead}
 use Rattle.reader.proofs.Entries.{places_at}
 
-pub found_item : (x : Found) → is_item x ≡ true → x ≡ Found.At (item_number x)
-found_item (Found.At i) e = refl
-found_item Found.Absent e = absurd (true_not_false e refl)
-found_item (Found.Refused r) e = absurd (true_not_false e refl)
+pub found_item : (x : Found) → is_item x ≡ true → x ≡ Ok (Some (item_number x))
+found_item (Ok (Some i)) e = refl
+found_item (Ok None) e = absurd (true_not_false e refl)
+found_item (Err r) e = absurd (true_not_false e refl)
 
 pub item_below : (t : List ℕ) (n : ℕ) (name : List ℕ) → is_item (find_in t n name) ≡ true → item_number (find_in t n name) < n
 item_below t n name e = (find_lowest t n name (item_number (find_in t n name)) (found_item (find_in t n name) e)).item

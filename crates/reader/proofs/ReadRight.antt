@@ -9,6 +9,7 @@ use native.Mathlib.Decide.{dec_lt}
 use native.Mathlib.Omega.{arith}
 use borrow.Author.Count.{below_more}
 use lib.ListN.{length, drop, length-replicate}
+use Rattle.std.specs.Prelude.{Ok, Err}
 use Rattle.laws.proofs.Buffers.{zeros_at}
 use Rattle.refusals.specs.Sizes.{most_items, most_rules}
 use Rattle.items.specs.Names.{name_room, is_name}
@@ -20,8 +21,7 @@ use Rattle.accepts.specs.Accepted.{Standing, TableAccepted}
 use Rattle.accepts.specs.Tables.{Tables}
 use Rattle.tokens.proofs.Tokens.{name_is_name}
 use Rattle.lines.specs.declared.Line.{Line}
-use Rattle.reader.specs.declared.ReadBook.{ReadBook}
-use Rattle.reader.specs.Lines.{State, start, Result, head_of, item_name, with_item, rule_of, with_rule}
+use Rattle.reader.specs.Lines.{State, start, Result, head_of, item_name, with_item, rule_of, with_rule, ReadBook}
 use Rattle.reader.specs.Reading.{read_text}
 use Rattle.reader.proofs.LineCases.{FormRead, ItemRead, RuleRead, Cases, form_next, read_says}
 use Rattle.reader.proofs.Entries.{Spare, added_length, added_spare, added_ok, places_length}
@@ -158,8 +158,8 @@ module _ (st : State) (l : List ℕ) (right : Right st) (x : Line) where
 
 -- An answer with its tables: a book's tables are right.
 abbrev pub AnswerRight : List ℕ → List ℕ → ReadBook → Type 0
-AnswerRight names words (ReadBook.Book h) = Tables h names words
-AnswerRight names words (ReadBook.Refused r) = Unit
+AnswerRight names words (Ok h) = Tables h names words
+AnswerRight names words (Err r) = Unit
 
 abbrev pub ResultRight : Result → Type 0
 ResultRight r = AnswerRight r.names r.words r.answer
@@ -173,6 +173,6 @@ right_cases st l right = record {
   end = λ x h. right.tables;
 }
 
-pub read_right : (l : List ℕ) {h : Head} → (read_text l).answer ≡ ReadBook.Book h → Tables h (read_text l).names (read_text l).words
+pub read_right : (l : List ℕ) {h : Head} → (read_text l).answer ≡ Ok h → Tables h (read_text l).names (read_text l).words
 read_right l e = subst (AnswerRight (read_text l).names (read_text l).words) e
     (read_says (λ st rest. Right st) ResultRight right_cases (length l) start l right_start)

@@ -15,6 +15,10 @@ use mir.Val.{Fits}
 use types.Run.{OneOf}
 use denote.Enum as enum
 use borrow.Author.Tests.{eq-eqb, ne_eqb, ltb-true, not-true, not-false}
+use Rattle.reader.specs.declared.line.Next.{Next}
+use Rattle.refusals.specs.declared.Refusal.{Refusal}
+use Rattle.refusals.specs.Said.{refusal_at}
+use Rattle.std.specs.Prelude.{Option, Some, None, Ok, Err}
 use Rattle.laws.proofs.Bools.{and_left}
 use Rattle.refusals.specs.Sizes.{most_text, most_items, most_rules, most_left}
 use Rattle.refusals.specs.declared.Fault.{Fault}
@@ -24,16 +28,12 @@ use Rattle.keys.specs.declared.Key.{Key}
 use Rattle.keys.specs.contracts.Key as key
 use Rattle.lines.specs.Lines.{line_at, line_len}
 use Rattle.lines.specs.declared.Line.{Line}
-use Rattle.lines.specs.declared.ReadLine.{ReadLine}
 use Rattle.lines.proofs.Told.{LineHere, line_here}
-use Rattle.reader.specs.declared.ReadBook.{ReadBook}
-use Rattle.reader.specs.declared.line.Added.{Added}
 use Rattle.reader.specs.declared.line.Counts.{Counts}
-use Rattle.reader.specs.declared.line.Stepped.{Stepped}
 use Rattle.reader.specs.Names.{rising}
-use Rattle.reader.specs.Lines.{State, Turn, on, refused_at, refuse, head_of, counted, item_name, is_absent, with_item, item_step, rule_kind, left_places, left_numbers, with_rule, all_found, rule_step, end_step, key_step, line_step, step}
-use Rattle.reader.specs.InnerAdding.{NameReady, item_added, ItemAdded, NamesReady, RuleAdded}
-use Rattle.reader.specs.InnerLines.{state_of, turn_of, Ready, LineReady, Counting, ItemReady, RuleReady, stops_at, went_on, ItemStepped, RuleStepped, EndStepped}
+use Rattle.reader.specs.Lines.{State, Turn, on, refuse, head_of, counted, item_name, is_absent, with_item, item_step, rule_kind, left_places, left_numbers, with_rule, all_found, rule_step, end_step, key_step, line_step, step}
+use Rattle.reader.specs.InnerAdding.{NameReady, item_added, ItemAdded, NamesReady, RuleAdded, Added}
+use Rattle.reader.specs.InnerLines.{state_of, turn_of, Ready, LineReady, Counting, ItemReady, RuleReady, went_on, ItemStepped, RuleStepped, EndStepped, Stepped}
 
 -- A key's number is at most 5.
 pub key_few : (k : Key) → key_number k ≤ 5
@@ -73,19 +73,19 @@ line_inside r = omega (arith, (place_of r).end)
 
 -- The end line.
 module _ (text : List ℕ) (at : ℕ) {x : Line} {c : Counts} where
-  pub end_wrong : {r : Stepped} → r ≡ stops_at Fault.EndCount (c.lines + 1) → (x.value.count ≡ c.lines → ⊥) → EndStepped c (drop at text) x r
+  pub end_wrong : {r : Refusal} → r ≡ refusal_at Fault.EndCount (c.lines + 1) → (x.value.count ≡ c.lines → ⊥) → EndStepped c (drop at text) x (Err r)
   unfolding end_step
   end_wrong e f = record { turn = λ names words. rw (e, ne_eqb x.value.count c.lines f) }
 
   module _ (f : x.value.count ≡ c.lines) {k : ℕ} (g : k ≡ line_len x) where
-    pub end_more : (length text - at ≡ k → ⊥) → {a : ReadBook} → a ≡ refused_at Fault.EndCount (c.lines + 2) → EndStepped c (drop at text) x (Stepped.Stop a)
+    pub end_more : (length text - at ≡ k → ⊥) → {r : Refusal} → r ≡ refusal_at Fault.EndCount (c.lines + 2) → EndStepped c (drop at text) x (Err r)
     unfolding end_step
     end_more h e = record {
       turn = λ names words.
           rw (e, eq-eqb x.value.count c.lines f, length-drop at text, ← g, ne_eqb (length text - at) k h);
     }
 
-    pub end_right : length text - at ≡ k → EndStepped c (drop at text) x (Stepped.Stop (ReadBook.Book (head_of c)))
+    pub end_right : length text - at ≡ k → EndStepped c (drop at text) x (Ok (Next.End (head_of c)))
     unfolding end_step
     end_right h = record {
       turn = λ names words.
@@ -94,10 +94,10 @@ module _ (text : List ℕ) (at : ℕ) {x : Line} {c : Counts} where
 
 -- A line that adds to a table: it moves on where its addition was made, and stops with the fault else.
 abbrev turn_by : State → State → ℕ → Added → Turn
-turn_by st next k Added.Yes = on next k
-turn_by st next k (Added.No f) = refuse st f
+turn_by st next k (Ok _) = on next k
+turn_by st next k (Err f) = refuse st f
 
-turn_cond : (st next : State) (k : ℕ) (b : Bool) (x : Added) (f : Fault) → cond b (turn_by st next k x) (refuse st f) ≡ turn_by st next k (cond b x (Added.No f))
+turn_cond : (st next : State) (k : ℕ) (b : Bool) (x : Added) (f : Fault) → cond b (turn_by st next k x) (refuse st f) ≡ turn_by st next k (cond b x (Err f))
 turn_cond st next k true x f = refl
 turn_cond st next k false x f = refl
 
@@ -105,7 +105,7 @@ turn_cond st next k false x f = refl
 item_turn : (st : State) (l : List ℕ) (x : Line) → item_step st l x ≡ turn_by st (with_item st l x) (line_len x) (item_added st.names st.counts.items (item_name l x))
 unfolding item_step
 item_turn st l x =
-    rw (turn_cond st (with_item st l x) (line_len x) (is_absent (find_in st.names st.counts.items (item_name l x))) Added.Yes Fault.NameTwice)
+    rw (turn_cond st (with_item st l x) (line_len x) (is_absent (find_in st.names st.counts.items (item_name l x))) (Ok tt) Fault.NameTwice)
     (turn_cond st (with_item st l x) (line_len x) (ltb st.counts.items most_items) _ Fault.TooMany)
 
 module _ {text : List ℕ} {at : ℕ} {x : Line} {c : Counts} {names : List ℕ} (ready : ItemReady text at x c names) where
@@ -140,14 +140,14 @@ module _ {text : List ℕ} {at : ℕ} {x : Line} {c : Counts} {names : List ℕ}
     told : {y : Added} → b ≡ y → item_added names c.items (item_name (drop at text) x) ≡ y
     told e = rw part at (sym a.told ∙ e)
 
-    pub item_counted : b ≡ Added.Yes → Fits w64 (c.items + 1)
+    pub item_counted : b ≡ Ok tt → Fits w64 (c.items + 1)
     item_counted e = record { fits = omega (arith, few _ (ltb c.items most_items) refl (told e)) }
       where
-        few : (y : Added) (d : Bool) → ltb c.items most_items ≡ d → cond d y (Added.No Fault.TooMany) ≡ Added.Yes → c.items < most_items
+        few : (y : Added) (d : Bool) → ltb c.items most_items ≡ d → cond d y (Err Fault.TooMany) ≡ Ok tt → c.items < most_items
         few y true h g = ltb-true c.items most_items h
         few y false h g = let never : ◌≡◌ {A = ℕ} 0 1 = cc in absurd (omega arith)
 
-    pub item_took : b ≡ Added.Yes → {r : Stepped} → r ≡ went_on c x (c.items + 1) c.rules → ItemStepped c names (drop at text) x r names'
+    pub item_took : b ≡ Ok tt → {r : Next} → r ≡ went_on c x (c.items + 1) c.rules → ItemStepped c names (drop at text) x (Ok r) names'
     item_took e f = record {
       turn = λ words.
           rw f
@@ -158,7 +158,7 @@ module _ {text : List ℕ} {at : ℕ} {x : Line} {c : Counts} {names : List ℕ}
           (sym (rw (e, part) at a.table)))));
     }
 
-    pub item_not : {f : Fault} → b ≡ Added.No f → {r : Stepped} → r ≡ stops_at f (c.lines + 1) → ItemStepped c names (drop at text) x r names'
+    pub item_not : {f : Fault} → b ≡ Err f → {r : Refusal} → r ≡ refusal_at f (c.lines + 1) → ItemStepped c names (drop at text) x (Err r) names'
     item_not e f = record {
       turn = λ words. rw (f, rw e at a.table) (sym (item_turn (state_of c names words) (drop at text) x ∙ rw (told e)));
     }
@@ -167,11 +167,11 @@ module _ {text : List ℕ} {at : ℕ} {x : Line} {c : Counts} {names : List ℕ}
 rule_turn : (st : State) (l : List ℕ) (x : Line)
     → rule_step st l x ≡ turn_by st (with_rule st l x) (line_len x)
     (cond (ltb st.counts.rules most_rules && leb x.value.names most_left)
-    (cond (all_found st l x) (cond (rising x.value.names (left_places (left_numbers st l x))) Added.Yes (Added.No Fault.LeftOrder)) (Added.No Fault.NoSuchItem))
-    (Added.No Fault.TooMany))
+    (cond (all_found st l x) (cond (rising x.value.names (left_places (left_numbers st l x))) (Ok tt) (Err Fault.LeftOrder)) (Err Fault.NoSuchItem))
+    (Err Fault.TooMany))
 unfolding rule_step
 rule_turn st l x =
-    rw (turn_cond st (with_rule st l x) (line_len x) (rising x.value.names (left_places (left_numbers st l x))) Added.Yes Fault.LeftOrder)
+    rw (turn_cond st (with_rule st l x) (line_len x) (rising x.value.names (left_places (left_numbers st l x))) (Ok tt) Fault.LeftOrder)
     (rw (turn_cond st (with_rule st l x) (line_len x) (all_found st l x) _ Fault.NoSuchItem)
     (turn_cond st (with_rule st l x) (line_len x) (ltb st.counts.rules most_rules && leb x.value.names most_left) _ Fault.TooMany))
 
@@ -204,19 +204,19 @@ module _ {text : List ℕ} {at : ℕ} {x : Line} {c : Counts} {words : List ℕ}
     unfolding all_found
     taken e = rule_turn (state_of c names words) (drop at text) x ∙ rw (front, behind, ← a.told, e)
 
-    pub rule_counted : b ≡ Added.Yes → Fits w64 (c.rules + 1)
+    pub rule_counted : b ≡ Ok tt → Fits w64 (c.rules + 1)
     rule_counted e = record { fits = omega (arith, few _ (ltb c.rules most_rules && leb x.value.names most_left) refl (sym a.told ∙ e)) }
       where
-        few : (y : Added) (d : Bool) → (ltb c.rules most_rules && leb x.value.names most_left) ≡ d → cond d y (Added.No Fault.TooMany) ≡ Added.Yes
+        few : (y : Added) (d : Bool) → (ltb c.rules most_rules && leb x.value.names most_left) ≡ d → cond d y (Err Fault.TooMany) ≡ Ok tt
             → c.rules < most_rules
         few y true h g = ltb-true c.rules most_rules (and_left _ _ h)
         few y false h g = let never : ◌≡◌ {A = ℕ} 0 1 = cc in absurd (omega arith)
 
-    pub rule_took : b ≡ Added.Yes → {r : Stepped} → r ≡ went_on c x c.items (c.rules + 1)
-        → RuleStepped c names words (drop at text) x r words'
+    pub rule_took : b ≡ Ok tt → {r : Next} → r ≡ went_on c x c.items (c.rules + 1)
+        → RuleStepped c names words (drop at text) x (Ok r) words'
     rule_took e f = record { turn = rw (f, rw (e, same, ← front, ← behind) at a.table) (sym (taken e)) }
 
-    pub rule_not : {f : Fault} → b ≡ Added.No f → {r : Stepped} → r ≡ stops_at f (c.lines + 1) → RuleStepped c names words (drop at text) x r words'
+    pub rule_not : {f : Fault} → b ≡ Err f → {r : Refusal} → r ≡ refusal_at f (c.lines + 1) → RuleStepped c names words (drop at text) x (Err r) words'
     rule_not e f = record { turn = rw (f, rw e at a.table) (sym (taken e)) }
 
 -- A key that is not form, item or end is a rule's.
@@ -235,24 +235,24 @@ rule_key Key.End st l x (inr (inl e)) = absurd (omega arith)
 rule_key Key.End st l x (inr (inr e)) = absurd (omega arith)
 
 -- Any line: y is what is read at the place.
-pub line_ready : {text : List ℕ} {at : ℕ} {x : Line} {c : Counts} {names words : List ℕ} {y : ReadLine} → Ready text c names words → y ≡ line_at (drop at text)
-    → y ≡ ReadLine.Found x → LineReady text at x c
+pub line_ready : {text : List ℕ} {at : ℕ} {x : Line} {c : Counts} {names words : List ℕ} {y : Option Line} → Ready text c names words → y ≡ line_at (drop at text)
+    → y ≡ Some x → LineReady text at x c
 line_ready r e f = record { text = r.text; lines = r.lines; here = sym e ∙ f }
 
-pub form_counts : (text : List ℕ) (at : ℕ) {x : Line} {c : Counts} {names words : List ℕ} {y : ReadLine} → y ≡ ReadLine.Found x → y ≡ line_at (drop at text)
+pub form_counts : (text : List ℕ) (at : ℕ) {x : Line} {c : Counts} {names words : List ℕ} {y : Option Line} → y ≡ Some x → y ≡ line_at (drop at text)
     → Ready text c names words → Counting c x
 form_counts text at f e r = line_counts (line_ready {at = at} r e f)
 
-pub item_ready : {text : List ℕ} {at : ℕ} {x : Line} {c : Counts} {names words : List ℕ} {y : ReadLine} → Ready text c names words → y ≡ line_at (drop at text)
-    → y ≡ ReadLine.Found x → x.key ≡ Key.Item → ItemReady text at x c names
+pub item_ready : {text : List ℕ} {at : ℕ} {x : Line} {c : Counts} {names words : List ℕ} {y : Option Line} → Ready text c names words → y ≡ line_at (drop at text)
+    → y ≡ Some x → x.key ≡ Key.Item → ItemReady text at x c names
 item_ready r e f g = record { line = line_ready r e f; item = g; room = r.names_room }
 
-pub rule_ready : {text : List ℕ} {at : ℕ} {x : Line} {c : Counts} {names words : List ℕ} {y : ReadLine} → Ready text c names words → y ≡ line_at (drop at text)
-    → y ≡ ReadLine.Found x → RuleReady text at x c words
+pub rule_ready : {text : List ℕ} {at : ℕ} {x : Line} {c : Counts} {names words : List ℕ} {y : Option Line} → Ready text c names words → y ≡ line_at (drop at text)
+    → y ≡ Some x → RuleReady text at x c words
 rule_ready r e f = record { line = line_ready r e f; room = r.words_room }
 
-pub step_none : (text : List ℕ) (at : ℕ) (c : Counts) (names words : List ℕ) {r : Stepped} → length text ≤ at → r ≡ stops_at Fault.EndCount (c.lines + 1)
-    → turn_of r names words ≡ step (state_of c names words) (drop at text)
+pub step_none : (text : List ℕ) (at : ℕ) (c : Counts) (names words : List ℕ) {r : Refusal} → length text ≤ at → r ≡ refusal_at Fault.EndCount (c.lines + 1)
+    → turn_of (Err r) names words ≡ step (state_of c names words) (drop at text)
 unfolding step
 step_none text at c names words h e = rw (e, drop_of_length-le text {i = at} h)
 
@@ -261,21 +261,21 @@ unfolding step
 line_step_lem st [] h = absurd (omega arith)
 line_step_lem st (b ∷ l) h = refl
 
-module _ (text : List ℕ) (at : ℕ) (c : Counts) (names words : List ℕ) (h : at < length text) {y : ReadLine} (e : y ≡ line_at (drop at text)) where
+module _ (text : List ℕ) (at : ℕ) (c : Counts) (names words : List ℕ) (h : at < length text) {y : Option Line} (e : y ≡ line_at (drop at text)) where
   first : step (state_of c names words) (drop at text) ≡ line_step (state_of c names words) (drop at text) y
   first = line_step_lem (state_of c names words) (drop at text) (omega (arith, length-drop at text)) ∙ rw (← e)
 
-  pub step_syntax : {r : Stepped} → y ≡ ReadLine.Bad → r ≡ stops_at Fault.Syntax (c.lines + 1)
-      → turn_of r names words ≡ step (state_of c names words) (drop at text)
+  pub step_syntax : {r : Refusal} → y ≡ None → r ≡ refusal_at Fault.Syntax (c.lines + 1)
+      → turn_of (Err r) names words ≡ step (state_of c names words) (drop at text)
   unfolding line_step
   step_syntax f g = rw g (sym (first ∙ rw f))
 
-  module _ {x : Line} (f : y ≡ ReadLine.Found x) {q : ℕ} (g : q ≡ key_number x.key) {b : Bool} (i : b ≡ next_allowed c.after q) where
+  module _ {x : Line} (f : y ≡ Some x) {q : ℕ} (g : q ≡ key_number x.key) {b : Bool} (i : b ≡ next_allowed c.after q) where
     table : next_allowed c.after (key_number x.key) ≡ b
     table = rw (← g) (sym i)
 
-    pub step_order : {r : Stepped} → not b ≡ true → r ≡ stops_at Fault.Order (c.lines + 1)
-        → turn_of r names words ≡ step (state_of c names words) (drop at text)
+    pub step_order : {r : Refusal} → not b ≡ true → r ≡ refusal_at Fault.Order (c.lines + 1)
+        → turn_of (Err r) names words ≡ step (state_of c names words) (drop at text)
     unfolding line_step
     step_order j k = rw k (sym (first ∙ rw (f, table, not-true b j)))
 
@@ -284,8 +284,8 @@ module _ (text : List ℕ) (at : ℕ) (c : Counts) (names words : List ℕ) (h :
       unfolding line_step
       by_key = first ∙ rw (f, table, not-false b j)
 
-      pub step_form : x.key ≡ Key.Form → {r : Stepped} → r ≡ went_on c x c.items c.rules
-          → turn_of r names words ≡ step (state_of c names words) (drop at text)
+      pub step_form : x.key ≡ Key.Form → {r : Next} → r ≡ went_on c x c.items c.rules
+          → turn_of (Ok r) names words ≡ step (state_of c names words) (drop at text)
       step_form z u = sym (by_key ∙ rw (z, u, z))
 
       pub step_item : x.key ≡ Key.Item → {r : Stepped} {names' : List ℕ} → ItemStepped c names (drop at text) x r names'

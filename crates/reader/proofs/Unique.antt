@@ -4,27 +4,28 @@ use mathlib.Core.Path.{◌≡◌, refl, sym, ap, ◌∙◌}
 use mathlib.Core.List.{List}
 use Prim.Native.Nat.{ℕ}
 use lib.ListN.{length, get_or}
+use Rattle.reader.specs.Lines.{ReadBook}
+use Rattle.std.specs.Prelude.{Ok, Err}
 use Rattle.refusals.specs.Said.{Said, success, refused}
 use Rattle.refusals.proofs.Said.{said_injective, refusal_of, refusal_back}
 use Rattle.rules.specs.declared.Head.{Head}
-use Rattle.reader.specs.declared.ReadBook.{ReadBook}
 use Rattle.reader.specs.Reading.{said_read, read_answer, ReadSays}
 
 -- An answer is known by what it says.
 abbrev book_of : Said → ReadBook
-book_of (success c l) = ReadBook.Book (record { items = get_or l 0 0; rules = get_or l 1 0 })
-book_of (refused n p) = ReadBook.Refused (refusal_of n p)
+book_of (success c l) = Ok (record { items = get_or l 0 0; rules = get_or l 1 0 })
+book_of (refused n p) = Err (refusal_of n p)
 
 book_back : (x : ReadBook) → book_of (said_read x) ≡ x
-book_back (ReadBook.Book h) = refl
-book_back (ReadBook.Refused r) = ap ReadBook.Refused (refusal_back r)
+book_back (Ok h) = refl
+book_back (Err r) = ap Err (refusal_back r)
 
 pub read_told : {l items rules : List ℕ} {r : ReadBook} {items' rules' : List ℕ} → ReadSays l items rules (said_read r) items' rules'
     → r ≡ read_answer l (length items) (length rules)
 read_told s = said_injective said_read book_of book_back s.answer
 
 -- A text is read as one book.
-pub same_head : {x : ReadBook} {h k : Head} → x ≡ ReadBook.Book h → x ≡ ReadBook.Book k → k ≡ h
+pub same_head : {x : ReadBook} {h k : Head} → x ≡ Ok h → x ≡ Ok k → k ≡ h
 same_head e f = let same = sym f ∙ e in cc
 
 -- Two results of reading are equal.

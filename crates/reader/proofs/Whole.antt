@@ -9,15 +9,17 @@ use lib.ListN.{length, drop, length-replicate, length-drop}
 use lib.Seq.{drop-drop}
 use mir.Syntax.{w64}
 use mir.Val.{Fits}
+use Rattle.rules.specs.declared.Head.{Head}
+use Rattle.reader.specs.declared.line.Next.{Next}
+use Rattle.refusals.specs.declared.Refusal.{Refusal}
+use Rattle.std.specs.Prelude.{Ok, Err}
 use Rattle.refusals.specs.Sizes.{most_items, most_rules}
 use Rattle.items.specs.Names.{name_room}
 use Rattle.rules.specs.Table.{rule_words}
-use Rattle.reader.specs.declared.ReadBook.{ReadBook}
 use Rattle.reader.specs.declared.line.Counts.{Counts}
-use Rattle.reader.specs.declared.line.Stepped.{Stepped}
-use Rattle.reader.specs.Lines.{State, Result, Turn, on, stop, step}
+use Rattle.reader.specs.Lines.{State, Result, Turn, on, stop, step, ReadBook}
 use Rattle.reader.specs.Reading.{go_on, read_from, read_text}
-use Rattle.reader.specs.InnerLines.{state_of, turn_of, Ready, StartsEmpty, Gives}
+use Rattle.reader.specs.InnerLines.{state_of, turn_of, Ready, StartsEmpty, Gives, Stepped}
 use Rattle.reader.proofs.LineCases.{TurnSays, step_says}
 
 -- A line that moves on is within the text, and counts itself.
@@ -109,12 +111,18 @@ reading_none {text} {names} {words} s = record {
 
 module _ {text names words : List ℕ} {c : Counts} {at : ℕ} (w : Reading text names words c at) (r : Stepped) (names' words' : List ℕ)
     (e : turn_of r names' words' ≡ step (state_of c names words) (drop at text)) where
-  pub reading_stop : {a : ReadBook} → r ≡ Stepped.Stop a → Gives text a names' words'
+  reading_stop : {a : ReadBook} → turn_of r names' words' ≡ stop (record { answer = a; names = names'; words = words' }) → Gives text a names' words'
   reading_stop f = record {
     result = w.rest ∙ read_step (state_of c names words) (drop at text) ∙ ap (go_on (λ next k. read_all next (drop k (drop at text)))) (sym e) ∙ rw f;
   }
 
-  module _ {d : Counts} {k : ℕ} (f : r ≡ Stepped.On d k) where
+  pub reading_end : {h : Head} → r ≡ Ok (Next.End h) → Gives text (Ok h) names' words'
+  reading_end f = reading_stop (rw f)
+
+  pub reading_refused : {f : Refusal} → r ≡ Err f → Gives text (Err f) names' words'
+  reading_refused f = reading_stop (rw f)
+
+  module _ {d : Counts} {k : ℕ} (f : r ≡ Ok (Next.Line d k)) where
     turn : on (state_of d names' words') k ≡ step (state_of c names words) (drop at text)
     turn = rw f at e
 

@@ -1,13 +1,14 @@
 -- Reading a rulebook line by line: what has been read so far, and what one line does to it. In one line the refusals come in the order 2, 3, 4,
 -- 5, 6, 7, 8.
 -- Assumes nothing.
-use Rattle.std.specs.Prelude.{Bool, true, false, cond, ◌&&◌, List, [], ◌∷◌, ℕ, ◌+◌, ◌*◌, ltb, leb, eqb, length, take, drop, replicate}
+use Rattle.std.specs.Prelude.{Bool, true, false, cond, ◌&&◌, List, [], ◌∷◌, ℕ, ◌+◌, ◌*◌, ltb, leb, eqb, length, take, drop, replicate, Option, Some, None, Ok, Err, Result as Answered}
 use Rattle.laws.specs.Over.{over}
 use Rattle.refusals.specs.Sizes.{most_items, most_rules, most_left}
+use Rattle.refusals.specs.Said.{refusal_at}
 use Rattle.refusals.specs.declared.Fault.{Fault}
+use Rattle.refusals.specs.declared.Refusal.{Refusal}
 use Rattle.items.specs.Names.{name_room}
-use Rattle.items.specs.Lookup.{find_in}
-use Rattle.items.specs.declared.Found.{Found}
+use Rattle.items.specs.Lookup.{Found, find_in}
 use Rattle.rules.specs.Table.{rule_words, words_of}
 use Rattle.rules.specs.declared.Head.{Head}
 use Rattle.rules.specs.declared.Rule.{Rule}
@@ -15,10 +16,12 @@ use Rattle.keys.specs.Keys.{key_number, next_allowed}
 use Rattle.keys.specs.declared.Key.{Key}
 use Rattle.lines.specs.Lines.{line_at, line_len}
 use Rattle.lines.specs.declared.Line.{Line}
-use Rattle.lines.specs.declared.ReadLine.{ReadLine}
-use Rattle.reader.specs.declared.ReadBook.{ReadBook}
 use Rattle.reader.specs.declared.line.Counts.{Counts}
 use Rattle.reader.specs.Names.{is_item, item_number, every_item, numbers_of, rising}
+
+-- What reading answers: the head of the book, or a refusal, with its line, or 0.
+abbrev pub ReadBook : Type 0
+ReadBook = Answered Head Refusal
 
 -- What has been read: the counts of lines, items and rules with the row of the last key, and the two tables.
 pub record State : Type 0 where
@@ -52,7 +55,7 @@ pub data Turn : Type 0 where
 
 -- A fault at a place, and at the line that is read.
 abbrev pub refused_at : Fault → ℕ → ReadBook
-refused_at f p = ReadBook.Refused (record { fault = f; place = p })
+refused_at f p = Err (refusal_at f p)
 
 abbrev pub refuse : State → Fault → Turn
 refuse st f = stop (result_of st (refused_at f (st.counts.lines + 1)))
@@ -66,9 +69,9 @@ abbrev pub item_name : List ℕ → Line → List ℕ
 item_name l x = take x.value.left (drop x.from l)
 
 abbrev pub is_absent : Found → Bool
-is_absent (Found.At i) = false
-is_absent Found.Absent = true
-is_absent (Found.Refused r) = false
+is_absent (Ok (Some i)) = false
+is_absent (Ok None) = true
+is_absent (Err r) = false
 
 abbrev pub with_item : State → List ℕ → Line → State
 with_item st l x = record {
@@ -100,7 +103,7 @@ abbrev pub left_numbers : State → List ℕ → Line → List ℕ
 left_numbers st l x = numbers_of st.names st.counts.items x.value.names (drop x.from l)
 
 unfoldable pub right_item_at : List ℕ → ℕ → ℕ → List ℕ → Found
-right_item_at t n len l = cond (eqb len 0) (Found.At 0) (find_in t n (take len l))
+right_item_at t n len l = cond (eqb len 0) (Ok (Some 0)) (find_in t n (take len l))
 
 abbrev pub right_found : State → List ℕ → Line → Found
 right_found st l x = right_item_at st.names st.counts.items x.value.right (drop (x.from + x.value.left + 1) l)
@@ -142,7 +145,7 @@ unfoldable pub end_step : State → List ℕ → Line → Turn
 end_step st l x =
     cond (eqb x.value.count st.counts.lines)
     (cond (eqb (length l) (line_len x))
-    (stop (result_of st (ReadBook.Book (head_of st.counts))))
+    (stop (result_of st (Ok (head_of st.counts))))
     (stop (result_of st (refused_at Fault.EndCount (st.counts.lines + 2)))))
     (refuse st Fault.EndCount)
 
@@ -158,9 +161,9 @@ key_step Key.Follow st l x = rule_step st l x
 key_step Key.End st l x = end_step st l x
 
 -- "the line has no LF, or is not one of the six forms" is 2; "the key table says no" is 3.
-unfoldable pub line_step : State → List ℕ → ReadLine → Turn
-line_step st l ReadLine.Bad = refuse st Fault.Syntax
-line_step st l (ReadLine.Found x) =
+unfoldable pub line_step : State → List ℕ → Option Line → Turn
+line_step st l None = refuse st Fault.Syntax
+line_step st l (Some x) =
     cond (next_allowed st.counts.after (key_number x.key)) (key_step x.key st l x) (refuse st Fault.Order)
 
 -- "A text with no end line is END_COUNT at the number of its lines plus one".

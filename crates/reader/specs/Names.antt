@@ -1,9 +1,8 @@
 -- The names of a rule, looked up in the item table. The text begins with the left names, each followed by one byte.
 -- Assumes nothing.
-use Rattle.std.specs.Prelude.{Bool, true, false, ◌&&◌, List, [], ◌∷◌, ℕ, zero, suc, ◌+◌, ◌-◌, ltb, get_or, take, drop}
+use Rattle.std.specs.Prelude.{Bool, true, false, ◌&&◌, List, [], ◌∷◌, ℕ, zero, suc, ◌+◌, ◌-◌, ltb, get_or, take, drop, Some, None, Ok, Err}
 use Rattle.laws.specs.Every.{every_below}
-use Rattle.items.specs.Lookup.{find_in}
-use Rattle.items.specs.declared.Found.{Found}
+use Rattle.items.specs.Lookup.{Found, find_in}
 use Rattle.scans.specs.Bytes.{name_byte, run_len}
 
 -- The first name, and what stands behind it and the byte that follows it.
@@ -14,14 +13,14 @@ abbrev pub rest_names : List ℕ → List ℕ
 rest_names l = drop (run_len name_byte l + 1) l
 
 abbrev pub is_item : Found → Bool
-is_item (Found.At i) = true
-is_item Found.Absent = false
-is_item (Found.Refused r) = false
+is_item (Ok (Some i)) = true
+is_item (Ok None) = false
+is_item (Err r) = false
 
 abbrev pub item_number : Found → ℕ
-item_number (Found.At i) = i
-item_number Found.Absent = 0
-item_number (Found.Refused r) = 0
+item_number (Ok (Some i)) = i
+item_number (Ok None) = 0
+item_number (Err r) = 0
 
 -- Each of the first c names is one of the n items of the table t.
 unfoldable pub every_item : List ℕ → ℕ → ℕ → List ℕ → Bool

@@ -7,17 +7,13 @@ use mathlib.Core.List.{List, [], ◌∷◌}
 use Prim.Native.Nat.{ℕ, zero, suc, ◌+◌, ◌-◌, ◌≤◌, ◌<◌, min}
 use native.Mathlib.Decide.{dec_le}
 use native.Mathlib.Omega.{arith}
-use lib.ListN.{length, get_or, take, drop, length-drop, drop_of_length-le, get_or-eq_default}
+use lib.ListN.{length, get_or, take, drop, length-drop, drop_of_length-le}
 use lib.Seq.{take_all, take-nil}
 use Rattle.laws.specs.Over.{over}
 use Rattle.records.specs.Fields.{behind, scan}
 use Rattle.records.specs.Rows.{whole, row_of, record_at, size_of, ends_of, RowSays, part_of, start_at, nth_field}
 use Rattle.records.specs.declared.Size.{Size}
 use Rattle.records.proofs.Parts.{fields_at, WholeAt, row_whole}
-
--- The end of a field: it is not known.
-pub end_unknown : (ends : List ℕ) (c most : ℕ) → length ends ≤ c → 0 ≡ min (get_or ends c 0) most
-end_unknown ends c most h = omega (arith, get_or-eq_default ends 0 h)
 
 -- The start of a field: of the first; of one behind another that ends before the most; of one behind another that does not.
 module _ (at : ℕ) (ends : List ℕ) where

@@ -1,18 +1,20 @@
 -- What the loops over a field's bytes keep from turn to turn: the machine at the next place gives what is left of the field. It rests on the
 -- machine's steps.
 -- Assumes nothing.
-use mathlib.Core.Path.{◌≡◌, sym, ap, ◌∙◌}
+use mathlib.Core.Path.{◌≡◌, refl, sym, ap, subst, ◌∙◌}
 use mathlib.Core.Bool.{true, false}
 use mathlib.Core.List.{List}
-use Prim.Native.Nat.{ℕ, ◌+◌, ◌-◌, ◌≤◌, ◌<◌}
-use native.Mathlib.Nat.{le_refl, add_assoc}
+use Prim.Native.Nat.{ℕ, zero, suc, ◌+◌, ◌-◌, ◌≤◌, ◌<◌}
+use native.Mathlib.Nat.{le_refl, add_assoc, add-zero}
 use native.Mathlib.Omega.{arith}
-use lib.ListN.{length, get_or, drop}
+use lib.ListN.{length, get_or, drop, length-drop}
+use lib.Seq.{get_or-drop}
+use Rattle.std.specs.Prelude.{Option, Some, None, MatchOption, unwrap_or}
 use Rattle.scans.specs.Ascii.{quote}
 use Rattle.scans.specs.Bytes.{byte_at}
 use Rattle.scans.proofs.Places.{byte_in, byte_inside}
 use Rattle.records.specs.Fields.{plain_byte, longer_by, behind, Where, plain, quoted, scan, field_at}
-use Rattle.records.specs.Inner.{PlainRun, QuotedRun, Closing}
+use Rattle.records.specs.Inner.{PlainRun, QuotedRun, closed_field, Closing}
 use Rattle.records.specs.declared.Field.{Field}
 use Rattle.records.proofs.Steps.{longer_longer, longer_none, plain_end, plain_on, plain_stop, quoted_end, quoted_on, quoted_quote}
 use Rattle.records.proofs.Steps.{closed_quote, closed_shut, start_quote, start_other, start_end}
@@ -96,12 +98,65 @@ module _ {l : List ℕ} {at i : ℕ} (p : Past quoted l at i) where
   pub past_run : {r : ℕ} → QuotedRun l i r → Past quoted l at (i + r)
   past_run {r} q = past_on p r q.within q.scans
 
-  pub past_never : length l ≤ i → Closing l at 0
+  pub past_never : length l ≤ i → Closing l at None
   past_never h = record {
-    none = λ z. p.rest ∙ ap (longer_by (i - at)) (quoted_end l i h);
-    some = λ z. absurd (omega arith);
+    scans = p.rest ∙ ap (longer_by (i - at)) (quoted_end l i h);
     within = omega (arith, p.order, p.within);
   }
+
+-- The first byte that is not plain, if there is one; and the first quote.
+abbrev pub PlainFirst : List ℕ → Option ℕ → Type 0
+PlainFirst x o =
+    MatchOption o ((k : ℕ) → k < length x → plain_byte (get_or x k 0) ≡ true)
+    (λ i. (i < length x) × (plain_byte (get_or x i 0) ≡ false) × ((k : ℕ) → k < i → plain_byte (get_or x k 0) ≡ true))
+
+abbrev pub QuotedFirst : List ℕ → Option ℕ → Type 0
+QuotedFirst x o =
+    MatchOption o ((k : ℕ) → k < length x → get_or x k 0 ≡ quote → ⊥)
+    (λ i. (i < length x) × (get_or x i 0 ≡ quote) × ((k : ℕ) → k < i → get_or x k 0 ≡ quote → ⊥))
+
+-- The same of all bytes from a place on: the first one that is not plain, if there is one, ends the run; and so does the first quote.
+module _ (l : List ℕ) (at : ℕ) (start : at ≤ length l) where
+  rest_at : (k : ℕ) → get_or (drop at l) k 0 ≡ get_or l (at + k) 0
+  rest_at k = get_or-drop at l k 0
+
+  past_plain : (n : ℕ) → at + n ≤ length l → ((k : ℕ) → k < n → plain_byte (get_or (drop at l) k 0) ≡ true) → Past plain l at (at + n)
+  past_plain zero h e = rw (add-zero at) (past_none start)
+  past_plain (suc n) h e =
+      subst (Past plain l at) (let s : at + n + 1 ≡ at + suc n = omega arith in s)
+      (past_plain_on (past_plain n (omega arith) (λ k j. e k (omega arith))) (omega arith)
+      (ap plain_byte (sym (rest_at n)) ∙ e n (omega arith)))
+
+  past_quoted : (n : ℕ) → at + n ≤ length l → ((k : ℕ) → k < n → get_or (drop at l) k 0 ≡ quote → ⊥) → Past quoted l at (at + n)
+  past_quoted zero h e = rw (add-zero at) (past_none start)
+  past_quoted (suc n) h e =
+      subst (Past quoted l at) (let s : at + n + 1 ≡ at + suc n = omega arith in s)
+      (past_quoted_on (past_quoted n (omega arith) (λ k j. e k (omega arith))) (omega arith) (λ q. e n (omega arith) (rest_at n ∙ q)))
+
+  found_at : (r n : ℕ) → r ≡ at + n - at → r ≡ n
+  found_at r n e = omega (arith, e)
+
+  pub plain_found : (x : List ℕ) → x ≡ drop at l → (o : Option ℕ) → PlainFirst x o → PlainRun l at (unwrap_or o (length x))
+  plain_found x is = subst (λ (y : List ℕ). (o : Option ℕ) → PlainFirst y o → PlainRun l at (unwrap_or o (length y))) (sym is) by
+    where
+      by : (o : Option ℕ) → PlainFirst (drop at l) o → PlainRun l at (unwrap_or o (length (drop at l)))
+      by None h =
+          subst (PlainRun l at) (found_at (at + length (drop at l) - at) (length (drop at l)) refl)
+          (past_plain_end (past_plain (length (drop at l)) (omega (arith, length-drop at l)) h) (omega (arith, length-drop at l)))
+      by (Some i) h =
+          subst (PlainRun l at) (found_at (at + i - at) i refl)
+          (past_plain_stop (past_plain i (omega (arith, h.0, length-drop at l)) h.2) (omega (arith, h.0, length-drop at l)) (ap plain_byte (sym (rest_at i)) ∙ h.1))
+
+  pub quoted_found : (x : List ℕ) → x ≡ drop at l → (o : Option ℕ) → QuotedFirst x o → QuotedRun l at (unwrap_or o (length x))
+  quoted_found x is = subst (λ (y : List ℕ). (o : Option ℕ) → QuotedFirst y o → QuotedRun l at (unwrap_or o (length y))) (sym is) by
+    where
+      by : (o : Option ℕ) → QuotedFirst (drop at l) o → QuotedRun l at (unwrap_or o (length (drop at l)))
+      by None h =
+          subst (QuotedRun l at) (found_at (at + length (drop at l) - at) (length (drop at l)) refl)
+          (past_quoted_end (past_quoted (length (drop at l)) (omega (arith, length-drop at l)) h) (omega (arith, length-drop at l)))
+      by (Some i) h =
+          subst (QuotedRun l at) (found_at (at + i - at) i refl)
+          (past_quoted_stop (past_quoted i (omega (arith, h.0, length-drop at l)) h.2) (sym (rest_at i) ∙ h.1))
 
 -- Between quotes, from quote to quote: the quote behind a run is doubled; or it closes the field.
 module _ {l : List ℕ} {at i r : ℕ} (p : Past quoted l at i) (q : QuotedRun l i r) (h : i + r < length l)
@@ -122,11 +177,10 @@ module _ {l : List ℕ} {at i r : ℕ} (p : Past quoted l at i) (q : QuotedRun l
           ∙ longer_longer 1 1 (scan quoted (drop (i + r + 1 + 1) l))
           ∙ ap (λ (k : ℕ). longer_by 2 (scan quoted (drop k l))) sum
 
-  pub past_closing : (b ≡ quote → ⊥) → Closing l at (i + r + 1 - at)
+  pub past_closing : (b ≡ quote → ⊥) → Closing l at (Some (i + r + 1 - at))
   past_closing g = record {
-    none = λ z. absurd (omega (arith, p.order));
-    some =
-        λ z. past_then (past_run p q) 1 (behind (drop (i + r + 1) l)) shut
+    scans =
+        past_then (past_run p q) 1 (behind (drop (i + r + 1) l)) shut
         ∙ ap (λ (k : ℕ). longer_by (i + r + 1 - at) (behind (drop k l))) sum;
     within = omega (arith, p.order);
   }
@@ -147,13 +201,13 @@ module _ (l : List ℕ) (at : ℕ) where
         → r ≡ field_at (drop at l)
     read_plain e p f = f ∙ sym (start_other l at h e ∙ p.scans)
 
-    module _ (e : get_or l at 0 ≡ quote) {n : ℕ} (p : Closing l (at + 1) n) where
-      pub read_open : n ≡ 0 → Field.Open ≡ field_at (drop at l)
-      read_open z = sym (start_quote l at h e ∙ ap (longer_by 1) (p.none z))
+    module _ (e : get_or l at 0 ≡ quote) {o : Option ℕ} (p : Closing l (at + 1) o) where
+      pub read_open : o ≡ None → Field.Open ≡ field_at (drop at l)
+      read_open z = sym (start_quote l at h e ∙ ap (longer_by 1) (p.scans ∙ ap (closed_field l (at + 1)) z))
 
-      pub read_quoted : (n ≡ 0 → ⊥) → {r : Field} → r ≡ longer_by (1 + n) (behind (drop (at + (1 + n)) l)) → r ≡ field_at (drop at l)
-      read_quoted z f =
+      pub read_quoted : {n : ℕ} → o ≡ Some n → {r : Field} → r ≡ longer_by (1 + n) (behind (drop (at + (1 + n)) l)) → r ≡ field_at (drop at l)
+      read_quoted {n} z f =
           f
           ∙ sym
-          (start_quote l at h e ∙ ap (longer_by 1) (p.some (omega arith)) ∙ longer_longer 1 n (behind (drop (at + 1 + n) l))
+          (start_quote l at h e ∙ ap (longer_by 1) (p.scans ∙ ap (closed_field l (at + 1)) z) ∙ longer_longer 1 n (behind (drop (at + 1 + n) l))
           ∙ ap (λ (k : ℕ). longer_by (1 + n) (behind (drop k l))) (add_assoc at 1 n))

@@ -3,6 +3,7 @@
 -- Assumes nothing.
 use mathlib.Core.Path.{◌≡◌, refl}
 use mathlib.Core.Bool.{true, false}
+use mathlib.Core.Logic.{◌⊎◌, inl, inr}
 use mathlib.Core.List.{List, [], ◌∷◌}
 use Prim.Native.Nat.{ℕ, ◌+◌, ◌≤◌, ◌<◌}
 use native.Mathlib.Nat.{add-zero, add_assoc, zero-add}
@@ -35,21 +36,27 @@ longer_none Field.Open = refl
 longer_none Field.Bad = refl
 
 -- Each of the four bytes is not plain, and any other byte is.
-pub plain_comma : {b : ℕ} → b ≡ comma → false ≡ plain_byte b
+plain_comma : {b : ℕ} → b ≡ comma → false ≡ plain_byte b
 unfolding plain_byte
 plain_comma {b} e = rw (eq-eqb b comma e)
 
-pub plain_quote : {b : ℕ} → b ≡ quote → false ≡ plain_byte b
+plain_quote : {b : ℕ} → b ≡ quote → false ≡ plain_byte b
 unfolding plain_byte
 plain_quote {b} e = rw (ne_eqb b comma (λ z. omega arith), eq-eqb b quote e)
 
-pub plain_cr : {b : ℕ} → b ≡ cr → false ≡ plain_byte b
+plain_cr : {b : ℕ} → b ≡ cr → false ≡ plain_byte b
 unfolding plain_byte
 plain_cr {b} e = rw (ne_eqb b comma (λ z. omega arith), ne_eqb b quote (λ z. omega arith), eq-eqb b cr e)
 
-pub plain_lf : {b : ℕ} → b ≡ lf → false ≡ plain_byte b
+plain_lf : {b : ℕ} → b ≡ lf → false ≡ plain_byte b
 unfolding plain_byte
 plain_lf {b} e = rw (ne_eqb b comma (λ z. omega arith), ne_eqb b quote (λ z. omega arith), ne_eqb b cr (λ z. omega arith), eq-eqb b lf e)
+
+pub plain_none : {b : ℕ} → (b ≡ lf) ⊎ ((b ≡ cr) ⊎ ((b ≡ quote) ⊎ (b ≡ comma))) → false ≡ plain_byte b
+plain_none (inl e) = plain_lf e
+plain_none (inr (inl e)) = plain_cr e
+plain_none (inr (inr (inl e))) = plain_quote e
+plain_none (inr (inr (inr e))) = plain_comma e
 
 pub plain_other : {b : ℕ} → (b ≡ comma → ⊥) → (b ≡ quote → ⊥) → (b ≡ cr → ⊥) → (b ≡ lf → ⊥) → true ≡ plain_byte b
 unfolding plain_byte

@@ -1,6 +1,6 @@
 -- What the inner functions of `records` give, and the fields of a record by where they end, of which the crates above speak in their inner contracts.
 -- Assumes nothing.
-use Rattle.std.specs.Prelude.{◌≡◌, Bool, cond, List, [], ◌∷◌, ◌++◌, ℕ, zero, suc, ◌+◌, ◌≤◌, ◌<◌, length, get_or, drop}
+use Rattle.std.specs.Prelude.{◌≡◌, Bool, cond, List, [], ◌∷◌, ◌++◌, ℕ, zero, suc, ◌+◌, ◌≤◌, ◌<◌, length, get_or, drop, Option, Some, None, unwrap_or}
 use Rattle.records.specs.Fields.{plain, quoted, scan, behind, longer_by, field_at, field_len}
 use Rattle.scans.specs.Ascii.{quote}
 use Rattle.records.specs.Rows.{line_end, few_bytes, start_at, nth_field}
@@ -18,11 +18,14 @@ pub record QuotedRun (l : List ℕ) (at r : ℕ) : Type 0 where
   pub within : at + r ≤ length l
   pub stops : at + r < length l → get_or l (at + r) 0 ≡ quote
 
--- From a place between quotes on the closing quote is the last of r bytes; or there is none, and r is 0.
-pub record Closing (l : List ℕ) (at r : ℕ) : Type 0 where
-  pub none : r ≡ 0 → scan quoted (drop at l) ≡ Field.Open
-  pub some : 1 ≤ r → scan quoted (drop at l) ≡ longer_by r (behind (drop (at + r) l))
-  pub within : at + r ≤ length l
+-- From a place between quotes on: the field is open where no quote closes it; else the closing quote is the last of so many bytes.
+abbrev pub closed_field : List ℕ → ℕ → Option ℕ → Field
+closed_field l at None = Field.Open
+closed_field l at (Some n) = longer_by n (behind (drop (at + n) l))
+
+pub record Closing (l : List ℕ) (at : ℕ) (r : Option ℕ) : Type 0 where
+  pub scans : scan quoted (drop at l) ≡ closed_field l at r
+  pub within : at + unwrap_or r 0 ≤ length l
 
 -- The size by counts alone: of a record of c fields and k bytes with a line end of e bytes, and of one that does not end in the text and has at least k bytes.
 abbrev pub closed_size : ℕ → ℕ → ℕ → Size

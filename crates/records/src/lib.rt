@@ -21,7 +21,7 @@ pub const LINE_END: usize = 2;
 
 // What stands behind a field, and the field's bytes, its quotes among them: a comma; a CRLF; nothing; a CR with nothing behind it. Open where the text ends
 // between the field's quotes; Bad where it is no field of RFC 4180 with one of these behind it.
-#[derive(Clone, Copy)]
+#[derive(Clone, Copy, Debug, PartialEq, Eq)]
 pub enum Field {
     Comma(usize),
     Line(usize),
@@ -32,14 +32,15 @@ pub enum Field {
 }
 
 // How many fields a record has, and how many bytes with its line end.
-#[derive(Clone, Copy)]
+#[derive(Clone, Copy, Debug, PartialEq, Eq)]
 pub struct Extent {
     pub fields: usize,
     pub bytes: usize,
 }
 
-// What stands where a record should: a whole one; More where the text ends before it does; Bad where it is none.
-#[derive(Clone, Copy)]
+// What stands where a record should: a whole one; More where the text ends before it does; Bad where it is none. Three answers about a text, none of them a
+// refusal: docs/PROMISES.md names them of `read_row`.
+#[derive(Clone, Copy, Debug, PartialEq, Eq)]
 pub enum Size {
     Whole(Extent),
     More,
@@ -56,24 +57,19 @@ pub fn read_field(text: &[u8], at: usize) -> Field
     if text[at] != QUOTE {
         return behind_field(text, at, plain_run(text, at));
     }
-    let len = closing(text, at + 1);
-    if len == 0 {
-        return Field::Open;
+    match closing(text, at + 1) {
+        Some(len) => behind_field(text, at, 1 + len),
+        None => Field::Open,
     }
-    behind_field(text, at, 1 + len)
 }
 
-// How many bytes a field has; 0 where it is none.
+// How many bytes a field has; 0 where it is none, as `field_len` of specs/Fields.antt has it.
 fn field_len(found: Field) -> usize
     ensures { result ≡ field_len found }
 {
     match found {
-        Field::Comma(len) => len,
-        Field::Line(len) => len,
-        Field::End(len) => len,
-        Field::Cr(len) => len,
-        Field::Open => 0,
-        Field::Bad => 0,
+        Field::Comma(len) | Field::Line(len) | Field::End(len) | Field::Cr(len) => len,
+        Field::Open | Field::Bad => 0,
     }
 }
 
@@ -84,18 +80,16 @@ fn field_len(found: Field) -> usize
 pub fn read_row(text: &[u8], at: usize, last: bool, most: usize, ends: &mut [usize]) -> Size
     ensures { RowSays text.now at last most ends.old result ends.new }
 {
-    let room = lesser(most, ends.len());
+    let room = most.min(ends.len());
     let mut i = at;
-    let mut c = 0;
-    while c < room {
+    for c in 0..room {
         let found = read_field(text, i);
         let end = i + field_len(found);
         ends[c] = end;
         let Field::Comma(_) = found else {
-            return ended(found, last, left(text, at), c + 1, i - at);
+            return ended(found, last, text.len().saturating_sub(at), c + 1, i - at);
         };
         i = end + 1;
-        c += 1;
     }
     Size::Bad
 }
@@ -110,14 +104,11 @@ pub fn nth_field<'a>(text: &'a [u8], at: usize, ends: &[usize], c: usize) -> &'a
     &text[start..end]
 }
 
-// Where field c ends, but at most so far; 0 where its end is not known.
+// Where field c ends, but at most so far; 0 where its end is not known, as `nth_field` of specs/Rows.antt has it.
 fn end_within(ends: &[usize], c: usize, most: usize) -> usize
     ensures { result ≡ min (get_or ends.now c 0) most }
 {
-    if ends.len() <= c {
-        return 0;
-    }
-    lesser(ends[c], most)
+    ends.get(c).copied().unwrap_or(0).min(most)
 }
 
 // Where field c starts, but at most so far.
@@ -125,30 +116,13 @@ fn start_within(at: usize, ends: &[usize], c: usize, most: usize) -> usize
     ensures { result ≡ min (start_at at ends.now c) most }
 {
     if c == 0 {
-        return lesser(at, most);
+        return at.min(most);
     }
     let before = end_within(ends, c - 1, most);
     if before < most {
         return before + 1;
     }
     most
-}
-
-// The lesser of two numbers.
-fn lesser(a: usize, b: usize) -> usize
-    ensures { result ≡ min a b }
-{
-    if a < b { a } else { b }
-}
-
-// How many bytes there are from a place on.
-fn left(text: &[u8], at: usize) -> usize
-    ensures { result ≡ length text.now - at }
-{
-    if text.len() < at {
-        return 0;
-    }
-    text.len() - at
 }
 
 // The size of a record whose last field is this one: of how many fields it is, and how many bytes stand before that one. The text has `left`
@@ -169,8 +143,7 @@ fn ended(found: Field, last: bool, left: usize, fields: usize, before: usize) ->
             unfinished(before, len)
         },
         Field::Open => if last { Size::Bad } else { unfinished(left, 1) },
-        Field::Comma(_) => Size::Bad,
-        Field::Bad => Size::Bad,
+        Field::Comma(_) | Field::Bad => Size::Bad,
     }
 }
 
@@ -179,10 +152,7 @@ fn closed(fields: usize, before: usize, len: usize, end: usize) -> Size
     requires { end ≤ line_end }
     ensures { result ≡ closed_size fields (before + len) end }
 {
-    if MOST_BYTES < before {
-        return Size::Bad;
-    }
-    if MOST_BYTES - before < len {
+    if MOST_BYTES < before.saturating_add(len) {
         return Size::Bad;
     }
     Size::Whole(Extent {
@@ -195,10 +165,7 @@ fn closed(fields: usize, before: usize, len: usize, end: usize) -> Size
 fn unfinished(before: usize, len: usize) -> Size
     ensures { result ≡ unfinished_size (before + len) }
 {
-    if MOST_BYTES < before {
-        return Size::Bad;
-    }
-    if MOST_BYTES - before < len {
+    if MOST_BYTES < before.saturating_add(len) {
         return Size::Bad;
     }
     Size::More
@@ -234,31 +201,22 @@ fn plain_run(text: &[u8], at: usize) -> usize
     requires { at ≤ length text.now }
     ensures { PlainRun text.now at result }
 {
-    let mut i = at;
-    while i < text.len() {
-        if !is_plain(text[i]) {
-            return i - at;
-        }
-        i += 1;
-    }
-    i - at
+    let rest = &text[at..];
+    rest.iter()
+        .position(|b| !is_plain(*b))
+        .unwrap_or(rest.len())
 }
 
 // Whether a field without quotes may hold this byte.
 fn is_plain(b: u8) -> bool
     ensures { result ≡ plain_byte b }
 {
-    match b {
-        COMMA => false,
-        QUOTE => false,
-        CR => false,
-        LF => false,
-        _ => true,
-    }
+    !matches!(b, COMMA | QUOTE | CR | LF)
 }
 
-// How many bytes there are from a place between quotes on up to the closing quote, and with it; 0 where the text has none.
-fn closing(text: &[u8], at: usize) -> usize
+// How many bytes there are from a place between quotes on up to the closing quote, and with it; None where the text has none.
+// The loop stays: how far it goes on each time depends on the quote that it finds.
+fn closing(text: &[u8], at: usize) -> Option<usize>
     requires { at ≤ length text.now }
     ensures { Closing text.now at result }
 {
@@ -266,14 +224,14 @@ fn closing(text: &[u8], at: usize) -> usize
     while i < text.len() {
         let quote = i + quoted_run(text, i);
         if text.len() <= quote {
-            return 0;
+            return None;
         }
         if byte_at(text, quote + 1) != QUOTE {
-            return quote + 1 - at;
+            return Some(quote + 1 - at);
         }
         i = quote + 2;
     }
-    0
+    None
 }
 
 // How many bytes from a place on are no quotes, one after the other.
@@ -281,12 +239,6 @@ fn quoted_run(text: &[u8], at: usize) -> usize
     requires { at ≤ length text.now }
     ensures { QuotedRun text.now at result }
 {
-    let mut i = at;
-    while i < text.len() {
-        if text[i] == QUOTE {
-            return i - at;
-        }
-        i += 1;
-    }
-    i - at
+    let rest = &text[at..];
+    rest.iter().position(|b| *b == QUOTE).unwrap_or(rest.len())
 }

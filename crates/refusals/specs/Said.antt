@@ -11,7 +11,11 @@ pub data Said : Type 0 where
   success : ℕ → List ℕ → Said
   refused : ℕ → ℕ → Said
 
--- A fault at a place.
+-- The refusal for a fault at a place.
+abbrev pub refusal_at : Fault → ℕ → Refusal
+refusal_at f p = record { fault = f; place = p }
+
+-- What it says.
 abbrev pub refused_by : Fault → ℕ → Said
 refused_by f p = refused (fault_number f) p
 

@@ -7,6 +7,7 @@ use Prim.Native.Nat.{ℕ, zero, suc, ◌+◌, ◌*◌, ◌≤◌, ◌<◌}
 use native.Mathlib.Omega.{arith}
 use lib.ListN.{length, take}
 use borrow.Author.Tests.{le-ltb}
+use Rattle.std.specs.Prelude.{Ok}
 use Rattle.refusals.specs.Sizes.{most_text}
 use Rattle.items.specs.Names.{name_room}
 use Rattle.items.specs.Table.{name_of}
@@ -21,7 +22,6 @@ use Rattle.scans.specs.Ascii.{lf, digit1}
 use Rattle.keys.specs.Keys.{key_text}
 use Rattle.keys.specs.declared.Key.{Key}
 use Rattle.tokens.specs.Tokens.{count_text, class_text}
-use Rattle.reader.specs.declared.ReadBook.{ReadBook}
 use Rattle.reader.specs.Reading.{read_text, read_whole}
 use Rattle.reader.specs.Agreeing.{TextsAgree}
 use Rattle.reader.proofs.Books.{book_of_lines, read_tables}
@@ -51,7 +51,7 @@ texts_written {p} {l} {m} a = record {
     other = record { items = rw (← a.rules.differ.items) (sym a.items); rules = refl }
 
 -- What was written is read.
-written_read : {h : Head} {t w : List ℕ} → Tables h t w → Words w → length (book_text h t w) ≤ most_text → read_whole (book_text h t w) ≡ ReadBook.Book h
+written_read : {h : Head} {t w : List ℕ} → Tables h t w → Words w → length (book_text h t w) ≤ most_text → read_whole (book_text h t w) ≡ Ok h
 written_read {h} {t} {w} a small short = rw (le-ltb most_text (length (book_text h t w)) short) (write_read a small).answer
 
 -- Tables that agree still do where they are read back.

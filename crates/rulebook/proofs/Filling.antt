@@ -1,6 +1,7 @@
 -- The item table as it fills: it has the first items of another, and the next item's name is put behind them; and what looking up a name answers
 -- there. They rest on the laws of the item table.
 -- Assumes nothing.
+use Rattle.std.specs.Prelude.{Some, None, Ok}
 use mathlib.Core.Path.{◌≡◌, sym, ap, ◌∙◌}
 use mathlib.Core.List.{List}
 use Prim.Native.Nat.{ℕ, suc, ◌+◌, ◌-◌, ◌*◌, ◌≤◌, ◌<◌}
@@ -11,7 +12,6 @@ use Rattle.items.specs.Names.{name_room}
 use Rattle.items.specs.Table.{entry_byte, name_of, ItemsOk}
 use Rattle.refusals.specs.Sizes.{most_items}
 use Rattle.items.specs.Lookup.{find_in}
-use Rattle.items.specs.declared.Found.{Found}
 use Rattle.items.proofs.Names.{name_spelled}
 use Rattle.items.proofs.Lookup.{HasName, find_is, name_is_name, own_name, found_name}
 use Rattle.items.proofs.Counted.{SameItems, find_counted, front_items}
@@ -65,11 +65,11 @@ module _ {t : List ℕ} {n : ℕ} (o : ItemsOk t n) {i : ℕ} {names : List ℕ}
           ∙ ap (λ (j : ℕ). get_or t j 0) (sym e)
 
   -- The next item's name is not among the first i.
-  pub next_absent : i < n → find_in names i (name_of t i) ≡ Found.Absent
+  pub next_absent : i < n → find_in names i (name_of t i) ≡ Ok None
   next_absent h =
       let same = holds_items (omega arith) in
       sym
-      (find_is names i (name_of t i) Found.Absent
+      (find_is names i (name_of t i) (Ok None)
       (record {
         sized = record { size = omega (arith, o.size); room = same.left };
         none = λ e j l s.
@@ -79,5 +79,5 @@ module _ {t : List ℕ} {n : ℕ} (o : ItemsOk t n) {i : ℕ} {names : List ℕ}
 
 -- In the whole table each item's name finds it.
 pub name_found : {t : List ℕ} {n : ℕ} → ItemsOk t n → {names : List ℕ} → Holds t n names → (j : ℕ) → j < n
-    → find_in names n (name_of t j) ≡ Found.At j
+    → find_in names n (name_of t j) ≡ Ok (Some j)
 name_found {t} {n} o p j h = find_counted (holds_items o p (omega arith)) (name_of t j) ∙ found_name o j h

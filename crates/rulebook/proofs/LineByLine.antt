@@ -8,10 +8,10 @@ use Prim.Native.Nat.{ℕ, zero, suc, ◌≤◌}
 use native.Mathlib.Omega.{arith}
 use lib.ListN.{length, drop, length-append, length-drop}
 use lib.Seq.{drop_at}
+use Rattle.std.specs.Prelude.{Some}
 use Rattle.keys.specs.Keys.{key_number, next_allowed}
 use Rattle.lines.specs.Lines.{line_at, line_len}
 use Rattle.lines.specs.declared.Line.{Line}
-use Rattle.lines.specs.declared.ReadLine.{ReadLine}
 use Rattle.reader.specs.Lines.{State, Result, on, stop, key_step, line_step, step}
 use Rattle.reader.specs.Reading.{go_on, read_from}
 
@@ -39,7 +39,7 @@ module _ {Q : Result → Type 0} {st : State} {l : List ℕ} (some : 1 ≤ lengt
 
 -- A line, with its LF, reads as y, whatever follows it.
 pub record LineRead (line : List ℕ) (y : Line) : Type 0 where
-  pub found : (rest : List ℕ) → line_at (line ++ rest) ≡ ReadLine.Found y
+  pub found : (rest : List ℕ) → line_at (line ++ rest) ≡ Some y
   pub size : line_len y ≡ length line
 
 step_line : (st : State) (l : List ℕ) → 1 ≤ length l → step st l ≡ line_step st l (line_at l)

@@ -10,6 +10,7 @@ use native.Mathlib.Omega.{arith}
 use lib.Dec.{ltb}
 use lib.ListN.{take, drop}
 use lib.Seq.{take-suc, take-add}
+use Rattle.std.specs.Prelude.{Option, Some, None}
 use Rattle.scans.specs.Ascii.{lf}
 use Rattle.items.specs.Names.{name_room}
 use Rattle.scans.specs.Bytes.{name_byte, byte_at, run_len}
@@ -17,26 +18,25 @@ use Rattle.scans.proofs.Places.{byte_in, byte_inside}
 use Rattle.keys.specs.Keys.{key_text}
 use Rattle.keys.proofs.KeyTexts.{key_is_text}
 use Rattle.tokens.specs.Tokens.{name_of_run, name_at}
-use Rattle.tokens.specs.declared.ReadName.{ReadName}
 use Rattle.lines.specs.Lines.{line_len}
 use Rattle.lines.specs.declared.Line.{Line}
 use Rattle.reader.proofs.LineFacts.{LineParts}
 
 -- A name that is read is the whole run of its bytes.
-abbrev RunSays : List ℕ → ReadName → Type 0
-RunSays l ReadName.Bad = Unit
-RunSays l (ReadName.Found n) = run_len name_byte l ≡ n
+abbrev RunSays : List ℕ → Option ℕ → Type 0
+RunSays l None = Unit
+RunSays l (Some n) = run_len name_byte l ≡ n
 
 run_says : (l : List ℕ) → RunSays l (name_at l)
 unfolding name_of_run
 run_says l = says (ltb (run_len name_byte l) 1) (ltb name_room (run_len name_byte l))
   where
-    says : (a b : Bool) → RunSays l (cond a ReadName.Bad (cond b ReadName.Bad (ReadName.Found (run_len name_byte l))))
+    says : (a b : Bool) → RunSays l (cond a None (cond b None (Some (run_len name_byte l))))
     says true b = tt
     says false true = tt
     says false false = refl
 
-pub name_run : (l : List ℕ) (n : ℕ) → name_at l ≡ ReadName.Found n → run_len name_byte l ≡ n
+pub name_run : (l : List ℕ) (n : ℕ) → name_at l ≡ Some n → run_len name_byte l ≡ n
 name_run l n e = subst (RunSays l) e (run_says l)
 
 -- One byte more at the front of a text.

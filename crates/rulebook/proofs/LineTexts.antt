@@ -10,6 +10,7 @@ use native.Mathlib.Omega.{arith}
 use lib.ListN.{get_or, take, drop}
 use lib.Seq.{take-add, drop-drop}
 use borrow.Author.Tests.{lt-ltb, le-ltb}
+use Rattle.std.specs.Prelude.{Some}
 use Rattle.scans.specs.Ascii.{lf, plus, digit1, colon}
 use Rattle.laws.proofs.Bools.{and_left, and_right}
 use Rattle.items.specs.Table.{name_of}
@@ -21,7 +22,6 @@ use Rattle.scans.specs.Bytes.{byte_at, name_byte, run_len}
 use Rattle.keys.specs.Keys.{key_text}
 use Rattle.keys.specs.declared.Key.{Key}
 use Rattle.tokens.specs.Tokens.{name_at, class_text}
-use Rattle.tokens.specs.declared.ReadName.{ReadName}
 use Rattle.tokens.proofs.Tokens.{count_is_text, class_is_text}
 use Rattle.lines.specs.Lines.{line_len}
 use Rattle.lines.specs.declared.Line.{Line}
@@ -59,7 +59,7 @@ module _ (t : List ℕ) (n c : ℕ) (l : List ℕ) where
     numbers_rest j = ap (λ (k : ℕ). get_or (numbers_of t n c (drop (k + 1) l)) j 0) run
 
 -- A left name with its sign.
-module _ (t : List ℕ) (n : ℕ) (x : Rule) (k : ℕ) (l : List ℕ) (a : ℕ) (e : name_at l ≡ ReadName.Found a)
+module _ (t : List ℕ) (n : ℕ) (x : Rule) (k : ℕ) (l : List ℕ) (a : ℕ) (e : name_at l ≡ Some a)
     (found : is_item (find_in t n (first_name l)) ≡ true) (item : left_item x k ≡ item_number (find_in t n (first_name l))) where
   piece_name : name_of t (left_item x k) ≡ take a l
   piece_name = ap (name_of t) item ∙ item_bytes t n (first_name l) found ∙ ap (λ (j : ℕ). take j l) (name_run l a e)

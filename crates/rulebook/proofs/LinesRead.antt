@@ -11,6 +11,7 @@ use lib.Dec.{ltb}
 use lib.ListN.{length, drop, length-append}
 use lib.Seq.{drop_at, drop-drop}
 use borrow.Author.Tests.{lt-ltb, le-ltb}
+use Rattle.std.specs.Prelude.{Some}
 use Rattle.scans.specs.Ascii.{lf, plus, digit1, colon}
 use Rattle.classes.specs.Class.{lowest, IsClass}
 use Rattle.classes.specs.declared.Class.{Class}
@@ -23,12 +24,10 @@ use Rattle.keys.specs.declared.Key.{Key}
 use Rattle.keys.proofs.KeyTexts.{key_reads}
 use Rattle.tokens.specs.Numbers.{count_digits}
 use Rattle.tokens.specs.Tokens.{name_at, count_text, class_text}
-use Rattle.tokens.specs.declared.ReadName.{ReadName}
 use Rattle.tokens.proofs.Tokens.{name_reads, count_reads, class_reads}
 use Rattle.lines.specs.Left.{left_found, left_at}
 use Rattle.lines.specs.Values.{named, form_at, with_class, with_right, value_at}
 use Rattle.lines.specs.declared.value.Value.{Value}
-use Rattle.lines.specs.declared.value.ReadValue.{ReadValue}
 use Rattle.lines.specs.declared.Line.{Line}
 use Rattle.lines.proofs.Sides.{left_last, left_more}
 use Rattle.writer.specs.Texts.{pieces, form_line, end_line}
@@ -57,14 +56,14 @@ feed_no_hex = refl
 
 -- A name reads back before any byte that no name has.
 pub name_before : (x : List ℕ) (b : ℕ) (rest : List ℕ) → is_name x ≡ true → name_byte b ≡ false
-    → name_at (x ++ b ∷ rest) ≡ ReadName.Found (length x)
+    → name_at (x ++ b ∷ rest) ≡ Some (length x)
 name_before x b rest e n = name_reads x (b ∷ rest) e (run_no name_byte b rest n)
 
 -- A line of a key and a value's text, where the value reads back before LF.
 abbrev pub line_with : Key → Value → Line
 line_with k v = record { key = k; from = length (key_text k); value = v }
 
-pub line_reads : (k : Key) (text : List ℕ) (v : Value) → ((rest : List ℕ) → value_at k (text ++ lf ∷ rest) ≡ ReadValue.Found v)
+pub line_reads : (k : Key) (text : List ℕ) (v : Value) → ((rest : List ℕ) → value_at k (text ++ lf ∷ rest) ≡ Some v)
     → v.len ≡ length text → LineRead (key_text k ++ text ++ lf ∷ []) (line_with k v)
 line_reads k text v e h = record {
   found = λ rest.
@@ -110,7 +109,7 @@ pub record LeftRead (text : List ℕ) (d : ℕ) : Type 0 where
   pub len : ℕ
   pub size : length text ≡ len + 1
   pub found : (rest : List ℕ) → left_at (text ++ rest) ≡ left_found d len
-  pub single : d ≡ 1 → (rest : List ℕ) → name_at (text ++ rest) ≡ ReadName.Found len
+  pub single : d ≡ 1 → (rest : List ℕ) → name_at (text ++ rest) ≡ Some len
   pub colon : (rest : List ℕ) → drop len (text ++ rest) ≡ colon ∷ rest
 
 last_read : (x : List ℕ) → is_name x ≡ true → LeftRead (x ++ colon ∷ []) 1
@@ -182,7 +181,7 @@ module _ {text : List ℕ} {d : ℕ} (s : LeftRead text d) where
   with_right_lem x rest e = rw (next_colon (x ++ lf ∷ rest), behind_colon (x ++ lf ∷ rest), name_before x lf rest e feed_no_name)
 
 -- A line of a key, a left side and a right side.
-two_sides : (k : Key) (left right : List ℕ) (v : Value) → ((rest : List ℕ) → value_at k (left ++ (right ++ lf ∷ rest)) ≡ ReadValue.Found v)
+two_sides : (k : Key) (left right : List ℕ) (v : Value) → ((rest : List ℕ) → value_at k (left ++ (right ++ lf ∷ rest)) ≡ Some v)
     → v.len ≡ length left + length right → LineRead (key_text k ++ left ++ right ++ lf ∷ []) (line_with k v)
 two_sides k left right v e h =
     rw (append_assoc (key_text k) left right)

@@ -1,6 +1,7 @@
 -- The names of a rule, looked up where its line was written: each left name gives its item, and so does the right one. They rest on runs of
 -- bytes and on what looking up a name answers.
 -- Assumes nothing.
+use Rattle.std.specs.Prelude.{Some, Ok}
 use mathlib.Core.Path.{◌≡◌, refl, sym, ap, ◌∙◌}
 use mathlib.Core.Bool.{Bool, true, false, cond}
 use mathlib.Core.List.{List, [], ◌∷◌, ◌++◌, append_assoc}
@@ -16,7 +17,6 @@ use Rattle.scans.specs.Ascii.{lf, plus, colon}
 use Rattle.laws.proofs.Every.{every_all}
 use Rattle.items.specs.Names.{is_name}
 use Rattle.items.specs.Lookup.{find_in}
-use Rattle.items.specs.declared.Found.{Found}
 use Rattle.items.proofs.Names.{name_spelled}
 use Rattle.rules.specs.Record.{by_kind, left_item}
 use Rattle.rules.specs.declared.Rule.{Rule}
@@ -63,7 +63,7 @@ numbered_at item (suc d) k (suc j) h = numbered_at item d (suc k) j (omega arith
 
 -- c names, each of which is an item of the table.
 module _ (t : List ℕ) (n : ℕ) (name : ℕ → List ℕ) (item : ℕ → ℕ) (c : ℕ) (ok : (j : ℕ) → j < c → is_name (name j) ≡ true)
-    (found : (j : ℕ) → j < c → find_in t n (name j) ≡ Found.At (item j)) where
+    (found : (j : ℕ) → j < c → find_in t n (name j) ≡ Ok (Some (item j))) where
   abbrev sign : ℕ → ℕ
   sign k = cond (ltb (k + 1) c) plus colon
 
@@ -120,10 +120,10 @@ module _ {n : ℕ} {x : Rule} (a : LeftAccepted n x) where
       (lt-ltb (left_item x k) (left_item x (suc k)) ((a.places k (omega arith)).rising (omega arith))))
 
 -- The right name of a follow gives its item; a cap and a floor have none, which gives item 0.
-pub right_found_lem : (t : List ℕ) (n k : ℕ) (class x rest : List ℕ) (i : ℕ) → (k < 2 → i ≡ 0) → (2 ≤ k → find_in t n x ≡ Found.At i)
-    → (2 ≤ k → is_name x ≡ true) → right_item_at t n (by_kind k 0 0 (length x)) (by_kind k class class x ++ lf ∷ rest) ≡ Found.At i
-right_found_lem t n zero class x rest i z f ok = sym (right_none t n 0 _ refl) ∙ ap Found.At (sym (z (omega arith)))
-right_found_lem t n (suc zero) class x rest i z f ok = sym (right_none t n 0 _ refl) ∙ ap Found.At (sym (z (omega arith)))
+pub right_found_lem : (t : List ℕ) (n k : ℕ) (class x rest : List ℕ) (i : ℕ) → (k < 2 → i ≡ 0) → (2 ≤ k → find_in t n x ≡ Ok (Some i))
+    → (2 ≤ k → is_name x ≡ true) → right_item_at t n (by_kind k 0 0 (length x)) (by_kind k class class x ++ lf ∷ rest) ≡ Ok (Some i)
+right_found_lem t n zero class x rest i z f ok = sym (right_none t n 0 _ refl) ∙ ap (λ k. Ok (Some k)) (sym (z (omega arith)))
+right_found_lem t n (suc zero) class x rest i z f ok = sym (right_none t n 0 _ refl) ∙ ap (λ k. Ok (Some k)) (sym (z (omega arith)))
 right_found_lem t n (suc (suc k)) class x rest i z f ok =
     sym (right_some t n (length x) (x ++ lf ∷ rest) (λ e. omega (arith, (name_spelled x (ok (omega arith))).least)) refl)
     ∙ rw (take_at x (lf ∷ rest) (length x) refl) (f (omega arith))

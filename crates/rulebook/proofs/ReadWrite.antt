@@ -8,6 +8,7 @@ use Prim.Native.Nat.{ℕ, ◌+◌, ◌*◌, ◌≤◌}
 use native.Mathlib.Omega.{arith}
 use lib.ListN.{length, take, drop, take-append-drop}
 use lib.Seq.{take_all}
+use Rattle.std.specs.Prelude.{Ok, Err}
 use Rattle.scans.specs.Ascii.{lf}
 use Rattle.items.specs.Names.{name_room, is_name}
 use Rattle.rules.specs.Table.{rule_at}
@@ -16,8 +17,7 @@ use Rattle.keys.specs.Keys.{key_text}
 use Rattle.keys.specs.declared.Key.{Key}
 use Rattle.lines.specs.Lines.{line_len}
 use Rattle.lines.specs.declared.Line.{Line}
-use Rattle.reader.specs.declared.ReadBook.{ReadBook}
-use Rattle.reader.specs.Lines.{State, start, Result, item_name, with_item, rule_of, with_rule, head_of}
+use Rattle.reader.specs.Lines.{State, start, Result, item_name, with_item, rule_of, with_rule, head_of, ReadBook}
 use Rattle.reader.specs.Reading.{read_text}
 use Rattle.writer.specs.Texts.{pieces, form_line, end_line, item_line, item_lines, rule_line, rule_lines, book_text}
 use Rattle.reader.proofs.LineCases.{FormRead, ItemRead, RuleRead, EndRead, Cases, form_next, read_says}
@@ -152,8 +152,8 @@ module _ (st : State) (l : List ℕ) (y : List ℕ) (reached : Reached y st) (x 
 
 -- An answer with its tables: what would be written of a book is the text.
 abbrev pub AnswerText : List ℕ → List ℕ → List ℕ → ReadBook → Type 0
-AnswerText z names words (ReadBook.Book h) = book_text h names words ≡ z
-AnswerText z names words (ReadBook.Refused r) = Unit
+AnswerText z names words (Ok h) = book_text h names words ≡ z
+AnswerText z names words (Err r) = Unit
 
 abbrev pub ResultText : List ℕ → Result → Type 0
 ResultText z r = AnswerText z r.names r.words r.answer
@@ -180,7 +180,7 @@ text_cases z st l p = record {
       whole = append_assoc p.read (take k l) (drop k l) ∙ ap (λ (y : List ℕ). p.read ++ y) (take-append-drop k l) ∙ p.whole;
     }
 
-pub read_write : (l : List ℕ) {h : Head} → (read_text l).answer ≡ ReadBook.Book h → book_text h (read_text l).names (read_text l).words ≡ l
+pub read_write : (l : List ℕ) {h : Head} → (read_text l).answer ≡ Ok h → book_text h (read_text l).names (read_text l).words ≡ l
 read_write l e =
     subst (AnswerText l (read_text l).names (read_text l).words) e
     (read_says (SoFar l) (ResultText l) (text_cases l) (length l) start l (record { read = []; reached = reached_start; whole = refl }))

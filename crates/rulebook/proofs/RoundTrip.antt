@@ -6,6 +6,7 @@ use mathlib.Core.List.{List, [], ◌∷◌}
 use Prim.Native.Nat.{ℕ, ◌*◌, ◌≤◌, ◌<◌}
 use native.Mathlib.Omega.{arith}
 use lib.ListN.{length, get_or, take, drop}
+use Rattle.std.specs.Prelude.{Ok}
 use Rattle.laws.specs.Over.{over}
 use Rattle.laws.proofs.Buffers.{front_over, behind_over}
 use Rattle.refusals.specs.Said.{Said, success, refused}
@@ -14,11 +15,9 @@ use Rattle.items.specs.Names.{name_room}
 use Rattle.rules.specs.Table.{rule_words}
 use Rattle.rules.specs.declared.Head.{Head}
 use Rattle.accepts.specs.Tables.{Tables, SameTables}
-use Rattle.reader.specs.declared.ReadBook.{ReadBook}
 use Rattle.reader.specs.Reading.{said_read, read_text, ReadSays}
 use Rattle.reader.proofs.ReadRight.{read_right}
 use Rattle.reader.proofs.Books.{accepted, accepted_answer, tables_read, read_passes}
-use Rattle.writer.specs.declared.Written.{Written}
 use Rattle.writer.specs.Texts.{book_text}
 use Rattle.writer.specs.Writing.{said_written, WriteSays, bad_table, too_long, no_room, written}
 use Rattle.rulebook.specs.RoundTrip.{Words, ReadBack, WrittenBack, RoomRefused}
@@ -27,7 +26,7 @@ use Rattle.rulebook.proofs.WriteRead.{Back, write_read}
 use Rattle.rulebook.proofs.Counted.{text_counted}
 
 -- A text that was read as a book: what would be written of it is the text.
-module _ {l items rules : List ℕ} {h : Head} {items' rules' : List ℕ} (read : ReadSays l items rules (said_read (ReadBook.Book h)) items' rules') where
+module _ {l items rules : List ℕ} {h : Head} {items' rules' : List ℕ} (read : ReadSays l items rules (said_read (Ok h)) items' rules') where
   text_read : book_text h items' rules' ≡ l
   text_read =
       text_counted (tables_read read refl) (read_right l (accepted read refl).book) ∙ read_write l (accepted read refl).book
@@ -77,7 +76,7 @@ module _ {h : Head} {t w : List ℕ} {k : ℕ} {out' : List ℕ} (wrote : TextWr
 
   module _ {items rules : List ℕ} {s : Said} {items' rules' : List ℕ} (read : ReadSays (take k out') items rules s items' rules')
       (items_room : h.items * name_room ≤ length items) (rules_room : h.rules * rule_words ≤ length rules) where
-    book : s ≡ said_read (ReadBook.Book h)
+    book : s ≡ said_read (Ok h)
     book =
         read.answer
         ∙ ap said_read
@@ -93,6 +92,6 @@ module _ {h : Head} {t w : List ℕ} {k : ℕ} {out' : List ℕ} (wrote : TextWr
     }
 
 pub write_then_read : {h : Head} {t w out : List ℕ} {k : ℕ} {out' items rules : List ℕ} {s : Said} {items' rules' : List ℕ}
-    → WriteSays h t w out (said_written (Written.Text k)) out' → Words w → ReadSays (take k out') items rules s items' rules'
+    → WriteSays h t w out (said_written (Ok k)) out' → Words w → ReadSays (take k out') items rules s items' rules'
     → h.items * name_room ≤ length items → h.rules * rule_words ≤ length rules → ReadBack h t w s items' rules'
 write_then_read write u read items_room rules_room = tables_back (wrote_says write) u read items_room rules_room

@@ -1,6 +1,7 @@
 -- One line of a written book, read: what is filled after an item's line, after a rule's line and at the end line. They rest on the lines that
 -- read back and on the names that are looked up.
 -- Assumes nothing.
+use Rattle.std.specs.Prelude.{Some, Ok}
 use mathlib.Core.Path.{◌≡◌, refl, sym, ap, ap₂, ◌∙◌}
 use mathlib.Core.Bool.{true}
 use mathlib.Core.List.{List, [], ◌∷◌, ◌++◌, append_assoc}
@@ -16,7 +17,6 @@ use Rattle.classes.specs.declared.Class.{Class}
 use Rattle.items.specs.Names.{is_name}
 use Rattle.items.specs.Table.{name_of, ItemsOk}
 use Rattle.items.specs.Lookup.{find_in}
-use Rattle.items.specs.declared.Found.{Found}
 use Rattle.items.proofs.Lookup.{name_is_name}
 use Rattle.rules.specs.Record.{left_item}
 use Rattle.rules.specs.Table.{rule_words, word_at, rule_at, words_of}
@@ -29,7 +29,6 @@ use Rattle.tokens.specs.Tokens.{count_text, class_text}
 use Rattle.laws.proofs.Over.{over_length}
 use Rattle.lines.specs.Lines.{line_len}
 use Rattle.lines.specs.declared.Line.{Line}
-use Rattle.reader.specs.declared.ReadBook.{ReadBook}
 use Rattle.reader.specs.Names.{every_item}
 use Rattle.reader.specs.Lines.{State, result_of, on, stop, item_name, with_item, item_step, left_numbers, right_found, rule_of, with_rule, all_found, rule_step, end_step}
 use Rattle.writer.specs.Texts.{pieces, item_line, left_text, right_text, rule_key, rule_line}
@@ -129,7 +128,7 @@ module _ {t : List ℕ} {n : ℕ} (o : ItemsOk t n) (x : Rule) (a : RuleAccepted
         ∙ rw after_key (drop_at (left_text t x) (right_text t x ++ lf ∷ rest) (sides.len + 1) sides.size)
 
     module _ {w : List ℕ} {r : ℕ} {st : State} (f : Filled t w n r st) where
-      left_found : (j : ℕ) → j < x.count → find_in st.names n (name_of t (left_item x j)) ≡ Found.At (left_item x j)
+      left_found : (j : ℕ) → j < x.count → find_in st.names n (name_of t (left_item x j)) ≡ Ok (Some (left_item x j))
       left_found j h = name_found o f.names (left_item x j) (item_inside j h)
 
       every_left : every_item st.names st.counts.items x.count (drop (length (key_text (rule_key x))) (rule_line t x ++ rest)) ≡ true
@@ -144,7 +143,7 @@ module _ {t : List ℕ} {n : ℕ} (o : ItemsOk t n) (x : Rule) (a : RuleAccepted
           (numbers_of_lem st.names n (λ k. name_of t (left_item x k)) (left_item x) x.count left_name left_found x.count 0
           (right_text t x ++ lf ∷ rest) (zero-add x.count))
 
-      right_item : right_found st (rule_line t x ++ rest) rule_read ≡ Found.At x.right
+      right_item : right_found st (rule_line t x ++ rest) rule_read ≡ Ok (Some x.right)
       right_item =
           rw (after_left, f.items)
           (right_found_lem st.names n x.kind (class_text x.class) (name_of t x.right) rest x.right a.rightless
@@ -210,7 +209,7 @@ abbrev pub end_read : ℕ → Line
 end_read c = line_with Key.End (unnamed_value c (length (count_text c)))
 
 pub end_step_lem : {t w : List ℕ} {n m : ℕ} {st : State} → Filled t w n m st → (l : List ℕ) → length l ≡ line_len (end_read (1 + n + m))
-    → end_step st l (end_read (1 + n + m)) ≡ stop (result_of st (ReadBook.Book (record { items = n; rules = m })))
+    → end_step st l (end_read (1 + n + m)) ≡ stop (result_of st (Ok (record { items = n; rules = m })))
 unfolding end_step
 end_step_lem {n = n} {m = m} {st = st} f l e =
     rw (

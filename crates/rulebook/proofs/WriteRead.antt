@@ -7,12 +7,12 @@ use Prim.Native.Nat.{ℕ, zero, suc, ◌+◌, ◌*◌, ◌^◌, ◌≤◌, ◌<�
 use native.Mathlib.Nat.{le_refl, zero-add}
 use native.Mathlib.Omega.{arith}
 use lib.ListN.{length, length-replicate}
+use Rattle.std.specs.Prelude.{Ok}
 use Rattle.items.specs.Table.{name_of}
 use Rattle.items.proofs.Lookup.{name_is_name}
 use Rattle.rules.specs.Table.{rule_words, word_at, rule_at}
 use Rattle.rules.specs.declared.Head.{Head}
 use Rattle.refusals.specs.Sizes.{most_rules}
-use Rattle.reader.specs.declared.ReadBook.{ReadBook}
 use Rattle.reader.specs.Lines.{State, start, Result, result_of}
 use Rattle.reader.specs.Reading.{read_text}
 use Rattle.writer.specs.Texts.{pieces, form_line, item_line, item_lines, rule_line, rule_lines, end_line, book_text}
@@ -29,7 +29,7 @@ use Rattle.rulebook.proofs.Steps.{Filled, item_step_lem, item_fills, rule_line_l
 
 -- The result of reading is the book under the head h, and its tables are t and w up to their counts.
 pub record Back (h : Head) (t w : List ℕ) (r : Result) : Type 0 where
-  pub answer : r.answer ≡ ReadBook.Book h
+  pub answer : r.answer ≡ Ok h
   pub tables : SameTables h r.names r.words t w
 
 -- The next of m rules may come, if there is one, and the end.
@@ -49,7 +49,7 @@ module _ {h : Head} {t w : List ℕ} (a : Tables h t w) (u : Words w) where
   abbrev m : ℕ
   m = h.rules
 
-  back : {st : State} → Filled t w n m st → Back h t w (result_of st (ReadBook.Book h))
+  back : {st : State} → Filled t w n m st → Back h t w (result_of st (Ok h))
   back f = record {
     answer = refl;
     tables = record {

@@ -1,26 +1,14 @@
--- Laws of the readers: the words of a table, and the join of left labels one name after the other.
+-- Laws of the join of left labels, one name after the other.
 -- Assumes nothing.
 use mathlib.Core.Path.{◌≡◌, refl, sym, ap, ◌∙◌}
-use mathlib.Core.List.{List}
-use Prim.Native.Nat.{ℕ, ◌+◌, ◌*◌, ◌≤◌}
+use Prim.Native.Nat.{ℕ, ◌+◌}
 use native.Mathlib.Numerals.{add-one}
-use lib.ListN.{length, get_or}
-use Rattle.laws.proofs.Lists.{zero_past}
 use Rattle.classes.specs.Class.{joined, lowest}
 use Rattle.classes.specs.declared.Class.{Class}
 use Rattle.meaning.specs.Rules.{join_up_to, join_over}
 use Rattle.meaning.specs.Classes.{classes}
 use Rattle.rules.specs.declared.Rule.{Rule}
 use Rattle.rules.specs.Record.{left_of, left_item, left_count}
-use Rattle.rules.specs.Table.{rule_words, word_at}
-
-pub word_past : (t : List ℕ) (r k : ℕ) → length t ≤ r * rule_words + k → 0 ≡ word_at t r k
-unfolding word_at
-word_past t r k h = zero_past t (r * rule_words + k) h
-
-pub word_there : (t : List ℕ) (r k : ℕ) → get_or t (r * rule_words + k) 0 ≡ word_at t r k
-unfolding word_at
-word_there t r k = refl
 
 -- a is the join of the first k left labels.
 pub record JoinSoFar (x : Rule) (f : ℕ → Class) (k : ℕ) (a : Class) : Type 0 where

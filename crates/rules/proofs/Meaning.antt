@@ -1,11 +1,13 @@
 -- The rule that a record stands for, by its kind.
 -- Assumes nothing.
-use mathlib.Core.Path.{◌≡◌, refl, ap}
-use Prim.Native.Nat.{ℕ, zero, suc, ◌≤◌}
+use mathlib.Core.Path.{◌≡◌, refl, sym, ap, ◌∙◌}
+use Prim.Native.Nat.{ℕ, zero, suc, ◌≤◌, min}
 use native.Mathlib.Omega.{arith}
+use Rattle.std.specs.Prelude.{Option, Some, None}
 use Rattle.meaning.specs.Rules as meant
 use Rattle.rules.specs.declared.Rule.{Rule}
-use Rattle.rules.specs.Record.{left_of, left_item, by_kind, meaning_of}
+use Rattle.rules.specs.declared.RuleKind.{RuleKind}
+use Rattle.rules.specs.Record.{kind_of, left_of, left_item, by_kind, meaning_of}
 use Rattle.classes.specs.declared.Class.{Class}
 
 -- what holds of a cap, of a floor and of a follow, each where the kind is its own, holds of the rule
@@ -41,3 +43,29 @@ meaning_other Q x ne c g = go x.kind ne
     go zero h = c _ _
     go (suc zero) h = absurd (h refl)
     go (suc (suc k)) h = g _ _
+
+-- What the kind that a number names tells of the number.
+abbrev number_of : Option RuleKind → ℕ
+number_of (Some RuleKind.Cap) = 0
+number_of (Some RuleKind.Floor) = 1
+number_of (Some RuleKind.Follow) = 2
+number_of None = 3
+
+kind_numbered : (k : ℕ) → number_of (kind_of k) ≡ min k 3
+kind_numbered zero = refl
+kind_numbered (suc zero) = refl
+kind_numbered (suc (suc zero)) = refl
+kind_numbered (suc (suc (suc k))) = omega arith
+
+module _ {o : Option RuleKind} {k : ℕ} (told : o ≡ kind_of k) where
+  pub kind_cap : o ≡ Some RuleKind.Cap → k ≡ 0
+  kind_cap e = omega (arith, kind_numbered k, ap number_of (sym told ∙ e))
+
+  pub kind_floor : o ≡ Some RuleKind.Floor → k ≡ 1
+  kind_floor e = omega (arith, kind_numbered k, ap number_of (sym told ∙ e))
+
+  pub follow_past : o ≡ Some RuleKind.Follow → 2 ≤ k
+  follow_past e = omega (arith, kind_numbered k, ap number_of (sym told ∙ e))
+
+  pub none_past : o ≡ None → 2 ≤ k
+  none_past e = omega (arith, kind_numbered k, ap number_of (sym told ∙ e))

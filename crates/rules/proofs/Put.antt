@@ -1,35 +1,30 @@
 -- Words put into a table, and what it holds after one more rule: the rule that was put, and the rules before it as they were. They rest on the laws of a put.
 -- Assumes nothing.
 use mathlib.Core.Path.{◌≡◌, refl, sym, ◌∙◌}
-use mathlib.Core.Bool.{Bool, true, false}
+use mathlib.Core.Bool.{Bool, true}
 use mathlib.Core.List.{List, [], ◌∷◌}
 use Prim.Native.Nat.{ℕ, zero, suc, ◌+◌, ◌-◌, ◌*◌, ◌≤◌, ◌<◌}
 use native.Mathlib.Omega.{arith}
 use lib.ListN.{length, get_or}
 use lib.Seq.{ext_get_or}
-use borrow.Author.Tests.{le-leb, lt-leb}
+use borrow.Rule.Slice.PartMut.{put_mid}
+use borrow.Author.Tests.{le-leb}
 use Rattle.refusals.specs.Sizes.{most_left}
 use Rattle.laws.specs.Over.{over}
 use Rattle.laws.proofs.Over.{over_length}
 use Rattle.laws.proofs.Buffers.{over_before, over_inside}
-use Rattle.laws.proofs.Copying.{Copied, copied_all}
+use Rattle.std.proofs.lemmas.Slice.{put_mid-paste}
 use Rattle.rules.specs.declared.Rule.{Rule}
 use Rattle.rules.specs.Table.{rule_words, word_at, rule_at, words_of, WordsPut}
 use Rattle.rules.proofs.Words.{rule_by_words}
 
--- All words are copied.
-pub words_copied : {x : List ℕ} {at : ℕ} {d d' : List ℕ} {i : ℕ} → Copied d at x d' i → length x ≤ i → WordsPut x at d true d'
-words_copied {x} {at} {d} c h = record { told = rw (le-leb (at + length x) (length d) c.room); table = copied_all c h }
-
--- There is no room.
-pub put_no_room : {x : List ℕ} {at : ℕ} {d : List ℕ} → length d < at + length x → WordsPut x at d false d
-put_no_room {x} {at} {d} h = record { told = rw (lt-leb (at + length x) (length d) h); table = refl }
-
-pub place_past : {x : List ℕ} {at : ℕ} {d : List ℕ} → length d < at → WordsPut x at d false d
-place_past h = put_no_room (omega arith)
-
-pub words_past : {x : List ℕ} {at : ℕ} {d : List ℕ} → at ≤ length d → length d - at < length x → WordsPut x at d false d
-words_past h g = put_no_room (omega arith)
+-- There is room: the words are copied.
+pub words_put : {x : List ℕ} {at k : ℕ} {d y : List ℕ} → at ≤ length d → length x ≤ length d - at → k ≡ length x → y ≡ x → WordsPut x at d true (put_mid at k d y)
+unfolding over
+words_put {x} {at} {k} {d} {y} h g e s = record {
+  told = rw (le-leb (at + length x) (length d) (omega arith));
+  table = put_mid-paste at k d y x (length x) s (sym e) refl;
+}
 
 -- A put has one result: the answer, and the table.
 pub record SamePut (a b : Bool) (d e : List ℕ) : Type 0 where

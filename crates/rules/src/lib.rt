@@ -4,22 +4,29 @@
 #![tactic(auto)]
 
 ghost use Rattle.std.specs.Prelude.{◌≡◌};
-ghost use Rattle.labels.specs.Labels.{labels_in};
 ghost use Rattle.meaning.specs.Rules.{join_over};
 ghost use Rattle.meaning.specs.Classes.{classes};
-ghost use Rattle.rules.specs.Record.{left_of};
+ghost use Rattle.rules.specs.Record.{kind_of, left_of};
 ghost use Rattle.rules.specs.Table.{word_at, rule_at, WordsPut, RulePut};
 
 use classes::Class;
-use labels::label_at;
+use labels::Labelled;
 use refusals::{MOST_LEFT, MOST_RULES};
 
-// The kinds of a rule.
+// The kinds of a rule by their numbers, as a table's words and a record have them: either may hold any number, and `rules_ok` answers no to others.
 pub const CAP: u64 = 0;
 
 pub const FLOOR: u64 = 1;
 
 pub const FOLLOW: u64 = 2;
+
+// The kinds as cases.
+#[derive(Clone, Copy, Debug, PartialEq, Eq)]
+pub enum RuleKind {
+    Cap,
+    Floor,
+    Follow,
+}
 
 // How many words a rule takes in a table.
 pub const WORDS: usize = 13;
@@ -28,7 +35,7 @@ pub const WORDS: usize = 13;
 pub const WHOLE_TABLE: usize = MOST_RULES * WORDS;
 
 // The head of a book: how many items it has, and how many rules.
-#[derive(Clone, Copy)]
+#[derive(Clone, Copy, Debug, PartialEq, Eq)]
 pub struct Head {
     pub items: usize,
     pub rules: usize,
@@ -36,7 +43,7 @@ pub struct Head {
 
 // One rule. A cap has its item as its one left name; a cap and a floor have a class and no right name, a follow has a right
 // name and no class. What a rule does not use is zero.
-#[derive(Clone, Copy)]
+#[derive(Clone, Copy, Debug, PartialEq, Eq)]
 pub struct Rule {
     pub kind: u64,
     pub count: u64,
@@ -45,24 +52,30 @@ pub struct Rule {
     pub class: Class,
 }
 
+impl Rule {
+    // The kind that the rule's number names, if it names one.
+    pub fn kind(self) -> Option<RuleKind>
+        ensures { result ≡ kind_of self.kind }
+    {
+        match self.kind {
+            CAP => Some(RuleKind::Cap),
+            FLOOR => Some(RuleKind::Floor),
+            FOLLOW => Some(RuleKind::Follow),
+            _ => None,
+        }
+    }
+}
+
 // Word k of rule r of a table, and zero past the table's end.
+#[tactic(auto, unfolding(crate::specs::Table::word_at))]
 fn word(rules: &[u64], r: usize, k: usize) -> u64
     ensures { result ≡ word_at rules.now r k }
 {
-    if rules.len() <= r {
-        return 0;
-    }
-    if rules.len() <= k {
-        return 0;
-    }
-    let at = r * WORDS + k;
-    if rules.len() <= at {
-        return 0;
-    }
-    rules[at]
+    let at = r.saturating_mul(WORDS).saturating_add(k);
+    rules.get(at).copied().unwrap_or(0)
 }
 
-// Rule r of a table.
+// Rule r of a table. Its left names stand one by one: with `array::from_fn` the proof did not close that each call reads this table.
 pub fn rule_at(rules: &[u64], r: usize) -> Rule
     ensures { result ≡ rule_at rules.now r }
 {
@@ -85,37 +98,26 @@ pub fn rule_at(rules: &[u64], r: usize) -> Rule
 }
 
 // The join of the left labels of a rule.
-pub fn left_join(rule: Rule, levels: &[u64], marks: &[u64]) -> Class
-    ensures { result ≡ join_over classes (left_of rule) (labels_in levels.now marks.now) }
+pub fn left_join<L: Labelled>(rule: Rule, labels: &L) -> Class
+    ensures { result ≡ join_over classes (left_of rule) (L.labels labels.now) }
 {
-    let count = rule.count;
+    let count = usize::min(rule.count as usize, MOST_LEFT);
     let mut join = Class::LOWEST;
-    let mut k: usize = 0;
-    while k < MOST_LEFT {
-        if count <= k as u64 {
-            return join;
-        }
-        join = join.join(label_at(levels, marks, rule.left[k]));
-        k += 1;
+    for item in &rule.left[..count] {
+        join = join.join(labels.label(*item));
     }
     join
 }
 
-// Puts these words at a place of a table. No where the table has no room for all of them, and then nothing is written.
+// Puts these words at a place of a table. No where the table has no room for all of them, and then nothing is written: a yes or no, as `WordsPut` says, since
+// nothing else is told.
 pub fn put_words(words: &[u64], table: &mut [u64], at: usize) -> bool
     ensures { WordsPut words.now at table.old result table.new }
 {
-    if table.len() < at {
+    if table.len() < at || table.len() - at < words.len() {
         return false;
     }
-    if table.len() - at < words.len() {
-        return false;
-    }
-    let mut i = 0;
-    while i < words.len() {
-        table[at + i] = words[i];
-        i += 1;
-    }
+    table[at..at + words.len()].copy_from_slice(words);
     true
 }
 
@@ -123,9 +125,6 @@ pub fn put_words(words: &[u64], table: &mut [u64], at: usize) -> bool
 pub fn put_rule(rule: Rule, rules: &mut [u64], r: usize) -> bool
     ensures { RulePut rule r rules.old result rules.new }
 {
-    if rules.len() <= r {
-        return false;
-    }
     let left = rule.left;
     let words = [
         rule.kind,
@@ -142,5 +141,5 @@ pub fn put_rule(rule: Rule, rules: &mut [u64], r: usize) -> bool
         rule.class.level,
         rule.class.marks,
     ];
-    put_words(&words, rules, r * WORDS)
+    put_words(&words, rules, r.saturating_mul(WORDS))
 }

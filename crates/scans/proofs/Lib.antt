@@ -1,4 +1,3 @@
 -- Why it is true, and what callers cite: a text at a place, and runs of bytes.
 pub mod Places
 pub mod Runs
-mod Counted

@@ -1,9 +1,9 @@
 -- A text at a place: the byte there, the end, and one byte further. They rest on the library's laws of `drop` and `get_or`.
 -- Assumes nothing.
 use mathlib.Core.Path.{◌≡◌, sym, ◌∙◌}
-use mathlib.Core.List.{List, [], ◌∷◌}
-use Prim.Native.Nat.{ℕ, ◌+◌, ◌-◌, ◌≤◌, ◌<◌}
-use native.Mathlib.Nat.{add-zero, add_assoc}
+use mathlib.Core.List.{List, ◌∷◌}
+use Prim.Native.Nat.{ℕ, ◌+◌, ◌≤◌, ◌<◌}
+use native.Mathlib.Nat.{add-zero}
 use native.Mathlib.Decide.{dec_lt}
 use native.Mathlib.Numerals.{add-one}
 use native.Mathlib.Omega.{arith}
@@ -26,9 +26,3 @@ byte_inside l at h = inside (dec_lt at (length l))
 
 pub drop_step : (l : List ℕ) (at : ℕ) → at < length l → drop at l ≡ get_or l at 0 ∷ drop (at + 1) l
 drop_step l at h = drop-cons l at 0 h ∙ rw add-one
-
-pub drop_next : (l : List ℕ) (at n : ℕ) → n < length l - at → drop (at + n) l ≡ get_or l (at + n) 0 ∷ drop (at + (n + 1)) l
-drop_next l at n h = drop_step l (at + n) (omega arith) ∙ rw add_assoc
-
-pub drop_end : (l : List ℕ) (at n : ℕ) → length l - at ≤ n → drop (at + n) l ≡ []
-drop_end l at n h = drop_of_length-le l {i = at + n} (omega arith)

@@ -3,18 +3,16 @@
 use mathlib.Core.Path.{◌≡◌, refl, sym, ap}
 use mathlib.Core.Bool.{Bool, true, false, cond}
 use mathlib.Core.List.{List, [], ◌∷◌, ◌++◌}
-use Prim.Native.Nat.{ℕ, zero, suc, ◌+◌, ◌≤◌, ◌<◌, zero-le, suc-le-suc}
+use Prim.Native.Nat.{ℕ, zero, suc, ◌+◌, ◌≤◌, ◌<◌}
 use native.Mathlib.Nat.{zero-add}
 use native.Mathlib.Omega.{arith}
 use lib.ListN.{length, get_or, take}
+use Rattle.std.specs.List.{prefix_len}
+use Rattle.std.proofs.lemmas.List.Sums.{prefix_len-le-length}
 use Rattle.scans.specs.Bytes.{run_len}
 
 module _ (kind : ℕ → Bool) where
   -- A step of a run, and its end.
-  pub run_nil : run_len kind [] ≡ 0
-  unfolding run_len
-  run_nil = refl
-
   pub run_yes : (b : ℕ) (l : List ℕ) → kind b ≡ true → run_len kind (b ∷ l) ≡ suc (run_len kind l)
   unfolding run_len
   run_yes b l e = rw e
@@ -23,15 +21,15 @@ module _ (kind : ℕ → Bool) where
   unfolding run_len
   run_no b l e = rw e
 
+  -- A run is the front of the text that the library counts.
+  pub run_prefix : (l : List ℕ) → run_len kind l ≡ prefix_len kind l
+  unfolding run_len
+  run_prefix [] = refl
+  run_prefix (b ∷ l) = rw (run_prefix l) (ap (λ n. cond (kind b) n 0) (omega arith))
+
   -- A run is no longer than the text.
   pub run_le : (l : List ℕ) → run_len kind l ≤ length l
-  unfolding run_len
-  run_le [] = zero-le
-  run_le (b ∷ l) = step (kind b) (run_le l)
-    where
-      step : (t : Bool) → run_len kind l ≤ length l → cond t (suc (run_len kind l)) 0 ≤ suc (length l)
-      step true h = suc-le-suc h
-      step false h = zero-le
+  run_le l = rw run_prefix (prefix_len-le-length kind l)
 
   -- Each byte in a run is of the kind.
   pub run_at : (l : List ℕ) (k : ℕ) → k < run_len kind l → kind (get_or l k 0) ≡ true

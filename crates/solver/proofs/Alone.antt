@@ -11,10 +11,10 @@ use Rattle.rules.specs.Agreeing.{TablesAgree}
 use Rattle.rules.proofs.Agreeing.{tables_agree}
 use Rattle.accepts.proofs.Inside.{table_inside}
 use Rattle.solver.specs.Solving.{said_solved, Buffers, labels_of, SolveSays, writes_labels}
-use Rattle.solver.specs.declared.Solved.{Solved}
+use Rattle.std.specs.Prelude.{Ok}
 
 pub solve_one_part_alone : {h k : Head} {t u : List ℕ} {n m : ℕ} {before after before' after' : Buffers} {p : ℕ} → p < part_count → TablesAgree p h t k u
-    → SolveSays h t before (said_solved (Solved.Labelled n)) after → SolveSays k u before' (said_solved (Solved.Labelled m)) after'
+    → SolveSays h t before (said_solved (Ok n)) after → SolveSays k u before' (said_solved (Ok m)) after'
     → (i : ℕ) → i < h.items → ClassesAgree p (labels_of after i) (labels_of after' i)
 solve_one_part_alone is_part agree (writes_labels x) (writes_labels y) =
     one_part_alone (table_inside x.accepted) (table_inside y.accepted) is_part (tables_agree agree) x.wanted y.wanted

@@ -18,14 +18,14 @@ use Rattle.meaning.proofs.Settle.{greatest_labels, greatest_held}
 use Rattle.meaning.proofs.Lowering.{numbers_lattice, lowered_start, lowered_end}
 use Rattle.rules.specs.declared.Head.{Head}
 use Rattle.rules.specs.Table.{book_of}
-use Rattle.solver.specs.Solving.{Buffers, labels_of}
+use Rattle.labels.specs.Labels.{listed}
 use Rattle.solver.specs.InnerSteps.{book_in, values_in, labels_at, Settles}
 use Rattle.solver.specs.InnerLowers.{LoweredParts, Lowers}
 use Rattle.solver.specs.InnerLabels.{Bounded, LabelSays, labelled, unlabelled}
-use Rattle.solver.specs.declared.label.Outcome.{Outcome}
+use Rattle.std.specs.Prelude.{Ok, Err}
 use Rattle.solver.proofs.Sweep.{usable_inside}
 
-module _ {h : Head} {t : List ℕ} {before mid : Buffers} {w : Class} (bounded : Bounded h t before) (settled : Settles h t before mid w) where
+module _ {h : Head} {t : List ℕ} {before mid : List Class} {w : Class} (bounded : Bounded h t before) (settled : Settles h t before mid w) where
   inside : (p : ℕ) → Inside (book_in p h t)
   inside = usable_inside bounded.usable
 
@@ -42,19 +42,19 @@ module _ {h : Head} {t : List ℕ} {before mid : Buffers} {w : Class} (bounded :
     under = (settled.greatest p s).pushed.under;
   }
 
-  refused_at : (p : ℕ) → p < part_count → (part p w ≡ 0 → ⊥) → ((q : ℕ) → q < p → part q w ≡ 0) → RefusedBelow class_parts (book_of h t) (labels_of before) p
+  refused_at : (p : ℕ) → p < part_count → (part p w ≡ 0 → ⊥) → ((q : ℕ) → q < p → part q w ≡ 0) → RefusedBelow class_parts (book_of h t) (listed before) p
   refused_at p s fails zeros = record {
     is_part = s;
     unmet = λ f x. fails (below_zero p s x);
     lower = λ q l. (labels_at q mid, zero_below q (omega arith) (zeros q l));
   }
 
-  pub without_level : (w.level ≡ 0 → ⊥) → {after : Buffers} → LabelSays h t before (Outcome.Without 0) after
+  pub without_level : (w.level ≡ 0 → ⊥) → {after : List Class} → LabelSays h t before (Err 0) after
   unfolding part
   without_level ne = unlabelled (refused_at 0 (omega arith) ne (λ q l. absurd (not-suc-le-zero l)))
 
-  pub without_mark : w.level ≡ 0 → (w.marks ≡ 0 → ⊥) → w.marks < 2 ^ 64 → {k : ℕ} → LowestOne 64 w.marks k → {after : Buffers}
-      → LabelSays h t before (Outcome.Without (k + 1)) after
+  pub without_mark : w.level ≡ 0 → (w.marks ≡ 0 → ⊥) → w.marks < 2 ^ 64 → {k : ℕ} → LowestOne 64 w.marks k → {after : List Class}
+      → LabelSays h t before (Err (k + 1)) after
   unfolding part
   without_mark z ne small {k} low = unlabelled {p = k + 1} (rw add-one (refused_at (suc k) (omega (arith, below)) (λ e. absurd (omega (arith, low.one below))) lower))
     where
@@ -69,7 +69,7 @@ module _ {h : Head} {t : List ℕ} {before mid : Buffers} {w : Class} (bounded :
       lower zero l = z
       lower (suc q) l = low.zeros q (omega arith)
 
-  pub all_labelled : w.level ≡ 0 → w.marks ≡ 0 → {after : Buffers} → Lowers h t 0 h.items mid after → LabelSays h t before Outcome.Done after
+  pub all_labelled : w.level ≡ 0 → w.marks ≡ 0 → {after : List Class} → Lowers h t 0 h.items mid after → LabelSays h t before (Ok tt) after
   unfolding part
   all_labelled z e lowers = labelled (record {
     wanted = λ p s. lowered_end (top_of p) (book_in p h t) (inside p) (labels_at p before) ((lowers.lowered (λ q. labels_at q before) start).each p s);

@@ -5,10 +5,11 @@ pub mod OneItem
 pub mod Push
 pub mod Sweep
 pub mod Lacking
-pub mod Copying
+pub mod Choosing
 pub mod Attempts
 pub mod Lowering
 pub mod Core
+pub mod HandingOut
 pub mod Answers
 pub mod Unique
 pub mod Counted

@@ -3,44 +3,44 @@
 use mathlib.Core.Path.{◌≡◌, refl, sym, ◌∙◌, ap, subst}
 use mathlib.Core.Bool.{Bool, false}
 use mathlib.Core.List.{List}
-use Prim.Native.Nat.{ℕ, ◌+◌, ◌<◌}
+use Prim.Native.Nat.{ℕ, ◌<◌}
 use native.Mathlib.Omega.{arith}
 use Rattle.classes.specs.declared.Class.{Class}
 use Rattle.meaning.specs.Rules.{RuleInside, follow, join_over}
 use Rattle.meaning.specs.Classes.{classes}
-use Rattle.labels.specs.Labels.{Room}
+use Rattle.labels.specs.Labels.{listed}
 use Rattle.rules.specs.Record.{left_item, left_of, meaning_of}
 use Rattle.rules.specs.Table.{rule_at}
 use Rattle.rules.specs.declared.Rule.{Rule}
 use Rattle.rules.proofs.Meaning.{meaning_cap, meaning_floor, meaning_follow}
-use Rattle.solver.specs.Solving.{Buffers, held, labels_of}
-use Rattle.solver.specs.InnerSteps.{meant_at, NamesLabelled, LowersItem, PushesRule}
+use Rattle.refusals.specs.Sizes.{most_items}
+use Rattle.solver.specs.InnerSteps.{meant_at, Named, LowersItem, PushesRule}
 use Rattle.solver.proofs.OneItem.{tracks_same}
 
-room_item : {n i : ℕ} {levels marks : List ℕ} → Room n levels marks → i < n → Room (i + 1) levels marks
-room_item r s = record { for_levels = omega (arith, r.for_levels); for_marks = omega (arith, r.for_marks) }
-
 module _ (t : List ℕ) (r : ℕ) (x : Rule) (same : x ≡ rule_at t r) where
-  -- The item that the rule lowers has room.
-  module _ {levels marks : List ℕ} (named : NamesLabelled (meant_at t r) (held levels marks)) where
-    pub cap_room : x.kind ≡ 0 → Room (left_item x 0 + 1) levels marks
-    cap_room e = room_item named.room (subst (RuleInside named.count) (sym (ap meaning_of same) ∙ meaning_cap x e) named.inside)
+  -- The item that the rule lowers has a label.
+  module _ (named : Named (meant_at t r)) where
+    inside_size : {i : ℕ} → i < named.count → i < most_items
+    inside_size s = omega (arith, s, named.size)
 
-    pub follow_room : (x.kind ≡ 0 → ⊥) → (x.kind ≡ 1 → ⊥) → Room (x.right + 1) levels marks
-    follow_room p q = room_item named.room (subst (RuleInside named.count) (sym (ap meaning_of same) ∙ meaning_follow x p q) named.inside).1
+    pub cap_item : x.kind ≡ 0 → left_item x 0 < most_items
+    cap_item e = inside_size (subst (RuleInside named.count) (sym (ap meaning_of same) ∙ meaning_cap x e) named.inside)
 
-  pub push_floor : (before : Buffers) → x.kind ≡ 1 → PushesRule (meant_at t r) before before false
+    pub follow_item : (x.kind ≡ 0 → ⊥) → (x.kind ≡ 1 → ⊥) → x.right < most_items
+    follow_item p q = inside_size (subst (RuleInside named.count) (sym (ap meaning_of same) ∙ meaning_follow x p q) named.inside).1
+
+  pub push_floor : (before : List Class) → x.kind ≡ 1 → PushesRule (meant_at t r) before before false
   push_floor before e =
       subst (λ m. PushesRule m before before false) (sym (meaning_floor x e) ∙ ap meaning_of same)
       (record { pushed = λ n j s. refl; met = λ z. tt; tracks = tracks_same before })
 
-  module _ {before after : Buffers} {b : Bool} where
+  module _ {before after : List Class} {b : Bool} where
     pub push_cap : x.kind ≡ 0 → LowersItem (left_item x 0) x.class before after b → PushesRule (meant_at t r) before after b
     push_cap e l =
         subst (λ m. PushesRule m before after b) (sym (meaning_cap x e) ∙ ap meaning_of same)
         (record { pushed = l.placed; met = l.covered; tracks = l.tracks })
 
-    pub push_follow : (x.kind ≡ 0 → ⊥) → (x.kind ≡ 1 → ⊥) → {c : Class} → c ≡ join_over classes (left_of x) (labels_of before) → LowersItem x.right c before after b
+    pub push_follow : (x.kind ≡ 0 → ⊥) → (x.kind ≡ 1 → ⊥) → {c : Class} → c ≡ join_over classes (left_of x) (listed before) → LowersItem x.right c before after b
         → PushesRule (meant_at t r) before after b
     push_follow p q e l =
         subst (λ m. PushesRule m before after b) (sym (meaning_follow x p q) ∙ ap meaning_of same)

@@ -8,7 +8,6 @@ use Prim.Native.Nat.{ℕ, ◌+◌, ◌-◌, ◌≤◌, ◌<◌}
 use native.Mathlib.Nat.{not-suc-le-zero}
 use native.Mathlib.Omega.{arith}
 use borrow.Author.Count.{below_more}
-use lib.ListN.{length}
 use Rattle.classes.specs.Parts.{part_count, top_of}
 use Rattle.classes.specs.declared.Class.{Class}
 use Rattle.meaning.specs.Rules.{Inside}
@@ -18,11 +17,10 @@ use Rattle.meaning.proofs.Settle.{between_start, between_push, between_trans, be
 use Rattle.meaning.proofs.Lowering.{numbers_lattice}
 use Rattle.meaning.proofs.Whole.{inside_part, pushed_part, met_down_part}
 use Rattle.meaning.proofs.Classes.{class_laws}
-use Rattle.labels.specs.Labels.{Room}
+use Rattle.labels.specs.Labels.{listed}
 use Rattle.rules.specs.declared.Head.{Head}
 use Rattle.rules.specs.Table.{book_of}
-use Rattle.solver.specs.Solving.{Buffers, labels_of}
-use Rattle.solver.specs.InnerSteps.{book_in, values_in, labels_at, meant_at, Usable, NamesLabelled, sum_of, Tracks, PushesRule, sweep_turn, Sweeps, Unheld, Settles}
+use Rattle.solver.specs.InnerSteps.{book_in, values_in, labels_at, meant_at, Usable, Named, sum_of, Tracks, PushesRule, sweep_turn, Sweeps, Unheld, Settles}
 use Rattle.solver.proofs.OneItem.{tracks_same}
 
 -- The turns of a sweep: each is a rule, and each rule has its turn.
@@ -37,29 +35,11 @@ turn_again : (b : Bool) (m r : ℕ) → r < m → sweep_turn b m (sweep_turn b m
 turn_again false m r s = refl
 turn_again true m r s = omega arith
 
--- Two buffers of the same lengths.
-pub record SameSize (before after : Buffers) : Type 0 where
-  pub levels : length after.levels ≡ length before.levels
-  pub marks : length after.marks ≡ length before.marks
-
-pub same_size : (b : Buffers) → SameSize b b
-same_size b = record { levels = refl; marks = refl }
-
-pub size_trans : {a b c : Buffers} → SameSize a b → SameSize b c → SameSize a c
-size_trans x y = record { levels = y.levels ∙ x.levels; marks = y.marks ∙ x.marks }
-
-pub room_kept : {n : ℕ} {b c : Buffers} → Room n b.levels b.marks → SameSize b c → Room n c.levels c.marks
-room_kept r s = record { for_levels = omega (arith, r.for_levels, s.levels); for_marks = omega (arith, r.for_marks, s.marks) }
-
--- Labels of the same lengths serve as well.
-pub usable_kept : {h : Head} {t : List ℕ} {b c : Buffers} → Usable h t b → SameSize b c → Usable h t c
-usable_kept x s = record { inside = x.inside; room = room_kept x.room s; size = x.size }
-
-pub usable_inside : {h : Head} {t : List ℕ} {b : Buffers} → Usable h t b → (p : ℕ) → Inside (book_in p h t)
+pub usable_inside : {h : Head} {t : List ℕ} → Usable h t → (p : ℕ) → Inside (book_in p h t)
 usable_inside {h} {t} usable p = inside_part class_parts class_laws (book_of h t) usable.inside p
 
 -- Changes one after the other.
-pub tracks_trans : {a b c : Buffers} (x y : Bool) → Tracks a b x → Tracks b c y → Tracks a c (x || y)
+pub tracks_trans : {a b c : List Class} (x y : Bool) → Tracks a b x → Tracks b c y → Tracks a c (x || y)
 tracks_trans false false p q = record { same = λ e. q.same refl ∙ p.same refl; falls = λ e. absurd (false≢true e) }
 tracks_trans {a} {b} {c} false true p q = record { same = λ e. absurd (true≢false e); falls = λ e. subst (λ z. sum_of c < sum_of z) (p.same refl) (q.falls refl) }
 tracks_trans {a} {b} {c} true false p q = record { same = λ e. absurd (true≢false e); falls = λ e. subst (λ z. sum_of z < sum_of a) (sym (q.same refl)) (p.falls refl) }
@@ -74,76 +54,71 @@ or_right false y e = e
 or_right true y e = absurd (true≢false e)
 
 -- A push of rule r, seen in part p.
-part_push : (h : Head) (t : List ℕ) → Inside (book_of h t) → (p : ℕ) → p < part_count → (before : Buffers) {cur next : Buffers} {b : Bool}
+part_push : (h : Head) (t : List ℕ) → Inside (book_of h t) → (p : ℕ) → p < part_count → (before : List Class) {cur next : List Class} {b : Bool}
     → Between (values_in p) (book_in p h t) (labels_at p before) (labels_at p cur) → (r : ℕ) → r < h.rules → PushesRule (meant_at t r) cur next b
     → Between (values_in p) (book_in p h t) (labels_at p before) (labels_at p next)
 unfolding numbers_lattice
 part_push h t inside p s before {cur} {next} w r l x =
     between_push (values_in p) (numbers_lattice (top_of p)) (inside_part class_parts class_laws (book_of h t) inside p) w r l
-    (pushed_part class_parts class_laws h.items (meant_at t r) (labels_of cur) (labels_of next) (x.pushed h.items) p s)
+    (pushed_part class_parts class_laws h.items (meant_at t r) (listed cur) (listed next) (x.pushed h.items) p s)
 
 -- After k turns of a sweep.
-pub record Swept (h : Head) (t : List ℕ) (back : Bool) (before cur : Buffers) (changed : Bool) (k : ℕ) : Type 0 where
-  pub sized : SameSize before cur
+pub record Swept (h : Head) (t : List ℕ) (back : Bool) (before cur : List Class) (changed : Bool) (k : ℕ) : Type 0 where
   pub between : (p : ℕ) → p < part_count → Between (values_in p) (book_in p h t) (labels_at p before) (labels_at p cur)
-  pub met : changed ≡ false → (j : ℕ) → j < k → MetDown classes (meant_at t (sweep_turn back h.rules j)) (labels_of cur)
+  pub met : changed ≡ false → (j : ℕ) → j < k → MetDown classes (meant_at t (sweep_turn back h.rules j)) (listed cur)
   pub tracks : Tracks before cur changed
 
-pub swept_none : {h : Head} {t : List ℕ} {back : Bool} {before : Buffers} → Swept h t back before before false 0
+pub swept_none : {h : Head} {t : List ℕ} {back : Bool} {before : List Class} → Swept h t back before before false 0
 swept_none {before = before} = record {
-  sized = same_size before;
   between = λ p s. between_start (values_in p) (numbers_lattice (top_of p)) _ _;
   met = λ e j l. absurd (not-suc-le-zero l);
   tracks = tracks_same before;
 }
 
-module _ {h : Head} {t : List ℕ} {back : Bool} {before cur : Buffers} {changed : Bool} {k r : ℕ} (usable : Usable h t before) (l : k < h.rules)
+module _ {h : Head} {t : List ℕ} {back : Bool} {before cur : List Class} {changed : Bool} {k r : ℕ} (usable : Usable h t) (l : k < h.rules)
     (w : Swept h t back before cur changed k) (e : r ≡ sweep_turn back h.rules k) where
   rule_below : r < h.rules
   rule_below = subst (λ z. z < h.rules) (sym e) (turn_below back h.rules k l)
 
   -- What the next push requires, and what is true after it.
-  pub turn_named : NamesLabelled (meant_at t r) cur
-  turn_named = record { count = h.items; inside = usable.inside.inside r rule_below; room = room_kept usable.room w.sized }
+  pub turn_named : Named (meant_at t r)
+  turn_named = record { count = h.items; inside = usable.inside.inside r rule_below; size = usable.size }
 
-  pub swept_more : {next : Buffers} {fell : Bool} → PushesRule (meant_at t r) cur next fell → SameSize cur next
+  pub swept_more : {next : List Class} {fell : Bool} → PushesRule (meant_at t r) cur next fell
       → Swept h t back before next (changed || fell) (k + 1)
-  swept_more {next} {fell} x size = record {
-    sized = size_trans w.sized size;
+  swept_more {next} {fell} x = record {
     between = λ p s. part_push h t usable.inside p s before (w.between p s) r rule_below x;
     met = λ quiet. below_more _ _
         (λ j s. move quiet j (w.met (or_left changed fell quiet) j s))
-        (move quiet k (subst (λ z. MetDown classes (meant_at t z) (labels_of cur)) e (x.met (or_right changed fell quiet))));
+        (move quiet k (subst (λ z. MetDown classes (meant_at t z) (listed cur)) e (x.met (or_right changed fell quiet))));
     tracks = tracks_trans changed fell w.tracks x.tracks;
   }
     where
-      move : (changed || fell) ≡ false → (j : ℕ) → MetDown classes (meant_at t (sweep_turn back h.rules j)) (labels_of cur)
-          → MetDown classes (meant_at t (sweep_turn back h.rules j)) (labels_of next)
+      move : (changed || fell) ≡ false → (j : ℕ) → MetDown classes (meant_at t (sweep_turn back h.rules j)) (listed cur)
+          → MetDown classes (meant_at t (sweep_turn back h.rules j)) (listed next)
       move quiet j m =
-          subst (λ b. MetDown classes (meant_at t (sweep_turn back h.rules j)) (labels_of b)) (sym (x.tracks.same (or_right changed fell quiet))) m
+          subst (λ b. MetDown classes (meant_at t (sweep_turn back h.rules j)) (listed b)) (sym (x.tracks.same (or_right changed fell quiet))) m
 
-pub swept_all : {h : Head} {t : List ℕ} {back : Bool} {before cur : Buffers} {changed : Bool} {k : ℕ} → Swept h t back before cur changed k → h.rules ≤ k
+pub swept_all : {h : Head} {t : List ℕ} {back : Bool} {before cur : List Class} {changed : Bool} {k : ℕ} → Swept h t back before cur changed k → h.rules ≤ k
     → Sweeps h t before cur changed
 swept_all {h} {t} {back} {before} {cur} w all = record {
   between = w.between;
   met = λ e r s.
-      subst (λ z. MetDown classes (meant_at t z) (labels_of cur)) (turn_again back h.rules r s)
+      subst (λ z. MetDown classes (meant_at t z) (listed cur)) (turn_again back h.rules r s)
       (w.met e (sweep_turn back h.rules r) (omega (arith, turn_below back h.rules r s)));
   tracks = w.tracks;
 }
 
 -- Between two sweeps, and at the end.
-pub record Settling (h : Head) (t : List ℕ) (before cur : Buffers) : Type 0 where
-  pub sized : SameSize before cur
+pub record Settling (h : Head) (t : List ℕ) (before cur : List Class) : Type 0 where
   pub between : (p : ℕ) → p < part_count → Between (values_in p) (book_in p h t) (labels_at p before) (labels_at p cur)
 
-pub settling_none : {h : Head} {t : List ℕ} {before : Buffers} → Settling h t before before
-settling_none {before = before} = record { sized = same_size before; between = λ p s. between_start (values_in p) (numbers_lattice (top_of p)) _ _ }
+pub settling_none : {h : Head} {t : List ℕ} {before : List Class} → Settling h t before before
+settling_none {before = before} = record { between = λ p s. between_start (values_in p) (numbers_lattice (top_of p)) _ _ }
 
-module _ {h : Head} {t : List ℕ} {before cur next : Buffers} {changed : Bool} (w : Settling h t before cur) (x : Sweeps h t cur next changed) where
-  pub settling_more : SameSize cur next → Settling h t before next
-  settling_more size = record {
-    sized = size_trans w.sized size;
+module _ {h : Head} {t : List ℕ} {before cur next : List Class} {changed : Bool} (w : Settling h t before cur) (x : Sweeps h t cur next changed) where
+  pub settling_more : Settling h t before next
+  settling_more = record {
     between = λ p s. between_trans (values_in p) (numbers_lattice (top_of p)) (w.between p s) (x.between p s);
   }
 
@@ -155,6 +130,6 @@ module _ {h : Head} {t : List ℕ} {before cur next : Buffers} {changed : Bool} 
     greatest = λ p s.
         between_met (values_in p) (numbers_lattice (top_of p))
         (between_trans (values_in p) (numbers_lattice (top_of p)) (w.between p s) (x.between p s))
-        (λ r l. met_down_part class_parts class_laws (meant_at t r) (labels_of next) (x.met quiet r l) p s);
+        (λ r l. met_down_part class_parts class_laws (meant_at t r) (listed next) (x.met quiet r l) p s);
     floors = floors;
   }

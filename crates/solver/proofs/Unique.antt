@@ -16,7 +16,8 @@ use Rattle.rules.specs.declared.Head.{Head}
 use Rattle.rules.specs.Table.{book_of}
 use Rattle.accepts.proofs.Inside.{table_inside}
 use Rattle.solver.specs.Solving.{said_solved, Buffers, held, labels_of, RestKept, WritesLabels, RefusesBook, SolveSays, bad_table, no_room, has_no_labelling, writes_labels}
-use Rattle.solver.specs.declared.Solved.{Solved}
+use Rattle.std.specs.Prelude.{Result, Ok, Err}
+use Rattle.refusals.specs.declared.Refusal.{Refusal}
 
 -- two lists that keep the same rest, and agree in front, are equal
 kept_same : {n : ℕ} {before a b : List ℕ} → RestKept n before a → RestKept n before b → ((i : ℕ) → i < n → get_or a i 0 ≡ get_or b i 0) → a ≡ b
@@ -27,17 +28,17 @@ kept_same {n} {before} {a} {b} x y front = ext_get_or 0 a b (x.sized ∙ sym y.s
     pick i (no s) = x.rest i (omega arith) ∙ sym (y.rest i (omega arith))
 
 -- An answer is known by what it says.
-abbrev first_or : List ℕ → Solved
-first_or [] = Solved.Labelled 0
-first_or (k ∷ l) = Solved.Labelled k
+abbrev first_or : List ℕ → Result ℕ Refusal
+first_or [] = Ok 0
+first_or (k ∷ l) = Ok k
 
-abbrev solved_of : Said → Solved
+abbrev solved_of : Said → Result ℕ Refusal
 solved_of (success c l) = first_or l
-solved_of (refused n p) = Solved.Refused (refusal_of n p)
+solved_of (refused n p) = Err (refusal_of n p)
 
-solved_back : (a : Solved) → solved_of (said_solved a) ≡ a
-solved_back (Solved.Labelled k) = refl
-solved_back (Solved.Refused r) = ap Solved.Refused (refusal_back r)
+solved_back : (a : Result ℕ Refusal) → solved_of (said_solved a) ≡ a
+solved_back (Ok k) = refl
+solved_back (Err r) = ap Err (refusal_back r)
 
 module _ {h : Head} {t : List ℕ} {before : Buffers} where
   written_same : {k j : ℕ} {a b : Buffers} → WritesLabels h t k before a → WritesLabels h t j before b → a ≡ b
@@ -73,5 +74,5 @@ module _ {h : Head} {t : List ℕ} {before : Buffers} where
   says_unique (writes_labels x) (writes_labels y) = (ap (λ k. success 0 (k ∷ [])) (x.count ∙ sym y.count), written_same x y)
 
   -- Any two results that solving allows are equal.
-  pub solve_unique : {x y : Solved} {a b : Buffers} → SolveSays h t before (said_solved x) a → SolveSays h t before (said_solved y) b → (x ≡ y) × (a ≡ b)
+  pub solve_unique : {x y : Result ℕ Refusal} {a b : Buffers} → SolveSays h t before (said_solved x) a → SolveSays h t before (said_solved y) b → (x ≡ y) × (a ≡ b)
   solve_unique p q = (said_injective said_solved solved_of solved_back (says_unique p q).0, (says_unique p q).1)

@@ -1,8 +1,9 @@
 -- The promise of solving: for each answer what it says, what is true of the tables, and what the two label buffers then hold.
 -- Assumes nothing.
-use Rattle.std.specs.Prelude.{◌≡◌, List, [], ◌∷◌, ℕ, ◌≤◌, length, get_or}
+use Rattle.std.specs.Prelude.{◌≡◌, List, [], ◌∷◌, ℕ, ◌≤◌, length, get_or, Result, Ok, Err}
 use Rattle.classes.specs.declared.Class.{Class}
 use Rattle.refusals.specs.declared.Fault.{Fault}
+use Rattle.refusals.specs.declared.Refusal.{Refusal}
 use Rattle.refusals.specs.Said.{Said, success, refused_by, said_refusal}
 use Rattle.meaning.specs.Labelling.{Wanted}
 use Rattle.meaning.specs.Parts.{Refused}
@@ -11,12 +12,11 @@ use Rattle.labels.specs.Labels.{labels_in, Room}
 use Rattle.rules.specs.declared.Head.{Head}
 use Rattle.rules.specs.Table.{book_of}
 use Rattle.accepts.specs.Accepted.{TableAccepted}
-use Rattle.solver.specs.declared.Solved.{Solved}
 
 -- What an answer says: the count of the labels that were written, or a refusal.
-abbrev pub said_solved : Solved → Said
-said_solved (Solved.Labelled k) = success 0 (k ∷ [])
-said_solved (Solved.Refused r) = said_refusal r
+abbrev pub said_solved : Result ℕ Refusal → Said
+said_solved (Ok k) = success 0 (k ∷ [])
+said_solved (Err r) = said_refusal r
 
 -- The lent labels, before and after.
 pub record Buffers : Type 0 where

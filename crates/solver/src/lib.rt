@@ -1,15 +1,16 @@
 // Solving: the wanted labels of a book that stands in a flat table of rules.
 #![tactic(auto)]
 
-ghost use Rattle.std.specs.Prelude.{◌≡◌};
-ghost use Rattle.refusals.specs.Said.{refused_by};
+ghost use Rattle.std.specs.Prelude.{◌≡◌, ◌≤◌};
+ghost use Rattle.labels.specs.Labels.{Room};
+ghost use Rattle.refusals.specs.Sizes.{most_items};
 ghost use Rattle.solver.specs.Solving.{held, said_solved, SolveSays};
+ghost use Rattle.solver.specs.InnerLowers.{HandsOut};
 
 use accepts::rules_ok;
 use classes::Class;
-use label::{Outcome, label};
-use labels::has_room;
-use lower::copy;
+use label::label;
+use labels::Labels;
 use refusals::{Fault, MOST_ITEMS, Refusal};
 use rules::Head;
 
@@ -18,46 +19,44 @@ mod label;
 mod lower;
 mod settle;
 
-// What solving answers: the count of the labels that were written, or a refusal.
-#[derive(Clone, Copy)]
-pub enum Solved {
-    Labelled(usize),
-    Refused(Refusal),
-}
+// The labels that solving works on, one for each item that there may be.
+pub(crate) type Working = [Class; MOST_ITEMS];
 
-// Writes the wanted labels of a book's items under the rules of its table. Refused are, in this order, a table that is not
-// accepted (BadTable at 0), buffers too short for the labels (NoRoom at 0), and a book without a labelling (NoLabelling at
-// its lowest part that has none). A refusal leaves both buffers untouched; a success writes from the front a label for each
-// item, answers their count and leaves the rest.
-pub fn solve(rules: &[u64], head: Head, levels: &mut [u64], marks: &mut [u64]) -> Solved
+// Writes the wanted labels of a book's items under the rules of its table, and answers their count. Refused are, in this order, a
+// table that is not accepted (BadTable at 0), buffers too short for the labels (NoRoom at 0), and a book without a labelling
+// (NoLabelling at its lowest part that has none). A refusal leaves both buffers untouched; a success writes from the front a
+// label for each item, and leaves the rest. Levels and marks are two lent buffers, of any two lengths, as `SolveSays` has them.
+pub fn solve(
+    rules: &[u64],
+    head: Head,
+    levels: &mut [u64],
+    marks: &mut [u64],
+) -> Result<usize, Refusal>
     ensures { SolveSays head rules.now (held levels.old marks.old) (said_solved result) (held levels.new marks.new) }
 {
     if !rules_ok(rules, head) {
-        return refused(Fault::BadTable, 0);
+        return Err(Fault::BadTable.at(0));
     }
-    if !has_room(levels, marks, head.items) {
-        return refused(Fault::NoRoom, 0);
+    if !(Labels { levels, marks }).has_room(head.items) {
+        return Err(Fault::NoRoom.at(0));
     }
-    let top = Class::HIGHEST;
-    let mut new_levels = [top.level; MOST_ITEMS];
-    let mut new_marks = [top.marks; MOST_ITEMS];
-    let outcome = label(rules, head, &mut new_levels, &mut new_marks);
-    match outcome {
-        Outcome::Without(part) => refused(Fault::NoLabelling, part),
-        Outcome::Done => {
-            copy(&new_levels, levels, head.items);
-            copy(&new_marks, marks, head.items);
-            Solved::Labelled(head.items)
-        }
+    let mut labels = [Class::HIGHEST; MOST_ITEMS];
+    if let Err(part) = label(rules, head, &mut labels) {
+        return Err(Fault::NoLabelling.at(part));
     }
+    hand_out(&labels, head.items, levels, marks);
+    Ok(head.items)
 }
 
-// The refusal by a fault at a place.
-fn refused(fault: Fault, place: u64) -> Solved
-    ensures { said_solved result ≡ refused_by fault place }
+// Writes the first n labels to the front of two lent buffers.
+#[tactic(auto, using(crate::proofs::HandingOut::handed_none, crate::proofs::HandingOut::handed_more))]
+fn hand_out(labels: &Working, n: usize, levels: &mut [u64], marks: &mut [u64])
+    requires size { n ≤ most_items }
+    requires room { Room n levels.old marks.old }
+    ensures { HandsOut labels.now n (held levels.old marks.old) (held levels.new marks.new) }
 {
-    Solved::Refused(Refusal {
-        fault: fault,
-        place: place,
-    })
+    for (i, label) in labels[..n].iter().enumerate() {
+        levels[i] = label.level;
+        marks[i] = label.marks;
+    }
 }

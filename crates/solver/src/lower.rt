@@ -1,116 +1,68 @@
 // Lowering: each item in turn gets the least class that still leaves a labelling. The level is tried from the lowest up, all
 // marks with it, and each mark is judged by itself.
 ghost use Rattle.std.specs.Prelude.{◌+◌};
-ghost use Rattle.solver.specs.Solving.{held};
 ghost use Rattle.solver.specs.InnerSteps.{Usable};
-ghost use Rattle.solver.specs.InnerLowers.{CopyRoom, Copied, Chosen, ItemUsable, Attemptable, Attempts, TriesLevel, Lowers};
+ghost use Rattle.solver.specs.InnerLowers.{ChosenOne, Chosen, ItemUsable, TriesLevel, Lowers};
 
+use super::Working;
 use super::settle::settle;
 use classes::{Class, TOP_LEVEL};
-use refusals::MOST_ITEMS;
 use rules::Head;
 
-// The first n words of a slice, written over the first n of another.
-pub(crate) fn copy(from: &[u64], to: &mut [u64], n: usize)
-    requires { CopyRoom n from.now to.old }
-    ensures { Copied n from.now to.old to.new }
+// A label with the marks of an old one where w has a bit.
+fn choose(label: Class, old: Class, w: u64) -> Class
+    ensures { ChosenOne w old label result }
 {
-    let mut i: usize = 0;
-    while i < n {
-        to[i] = from[i];
-        i += 1;
-    }
+    Class::new(label.level, (label.marks & !w) | (old.marks & w))
 }
 
-// Puts the old marks of the first n items back where w has a bit, and leaves the present ones elsewhere.
-fn put_back(old: &[u64], w: u64, marks: &mut [u64], n: usize)
-    requires { CopyRoom n old.now marks.old }
-    ensures { Chosen n w old.now marks.old marks.new }
+// Puts the old marks of each label back where w has a bit, and leaves the present ones elsewhere.
+#[tactic(auto, using(crate::proofs::Choosing::chosen_none, crate::proofs::Choosing::chosen_more, crate::proofs::Choosing::chosen_all))]
+fn put_back(old: &Working, w: u64, labels: &mut Working)
+    ensures { Chosen w old.now labels.old labels.new }
 {
-    let mut i: usize = 0;
-    while i < n {
-        marks[i] = (marks[i] & !w) | (old[i] & w);
-        i += 1;
+    for (i, label) in labels.iter_mut().enumerate() {
+        *label = choose(*label, old[i], w);
     }
-}
-
-// Saves the labels, puts level v and no marks at item i, and settles. Answers the parts in which no labelling is left.
-fn attempt(
-    rules: &[u64],
-    head: Head,
-    i: usize,
-    v: u64,
-    levels: &mut [u64],
-    marks: &mut [u64],
-    old_levels: &mut [u64],
-    old_marks: &mut [u64],
-) -> Class
-    requires { Attemptable head rules.now i (held levels.old marks.old) (held old_levels.old old_marks.old) }
-    ensures { Attempts head rules.now i v (held levels.old marks.old) (held levels.new marks.new) (held old_levels.new old_marks.new) result }
-{
-    copy(levels, old_levels, head.items);
-    copy(marks, old_marks, head.items);
-    levels[i] = v;
-    marks[i] = 0;
-    settle(rules, head, levels, marks)
 }
 
 // Tries level v at item i, and no marks. Answers yes where a labelling with that level is left: the labels are so lowered, and
 // each mark of item i that can go is gone. Else it answers no, with the labels as they were.
-fn try_level(
-    rules: &[u64],
-    head: Head,
-    i: usize,
-    v: u64,
-    levels: &mut [u64],
-    marks: &mut [u64],
-) -> bool
-    requires { ItemUsable head rules.now i (held levels.old marks.old) }
-    ensures { TriesLevel head rules.now i v (held levels.old marks.old) (held levels.new marks.new) result }
+#[tactic(auto, using(crate::proofs::Attempts::level_left, crate::proofs::Attempts::level_failed))]
+fn try_level(rules: &[u64], head: Head, i: usize, v: u64, labels: &mut Working) -> bool
+    requires { ItemUsable head rules.now i }
+    ensures { TriesLevel head rules.now i v labels.old labels.new result }
 {
-    let mut old_levels = [0u64; MOST_ITEMS];
-    let mut old_marks = [0u64; MOST_ITEMS];
-    let w = attempt(
-        rules,
-        head,
-        i,
-        v,
-        levels,
-        marks,
-        &mut old_levels,
-        &mut old_marks,
-    );
+    let old = *labels;
+    labels[i] = Class::new(v, 0);
+    let w = settle(rules, head, labels);
     if w.level == 0 {
-        put_back(&old_marks, w.marks, marks, head.items);
+        put_back(&old, w.marks, labels);
         return true;
     }
-    copy(&old_levels, levels, head.items);
-    copy(&old_marks, marks, head.items);
+    *labels = old;
     false
 }
 
 // Lowers item i: its level to the least that leaves a labelling, and each of its marks that can go.
-fn lower_item(rules: &[u64], head: Head, i: usize, levels: &mut [u64], marks: &mut [u64])
-    requires { ItemUsable head rules.now i (held levels.old marks.old) }
-    ensures { Lowers head rules.now i (i + 1) (held levels.old marks.old) (held levels.new marks.new) }
+#[tactic(auto, using(crate::proofs::Lowering::level_start, crate::proofs::Lowering::level_more, crate::proofs::Lowering::level_found, crate::proofs::Lowering::level_past))]
+fn lower_item(rules: &[u64], head: Head, i: usize, labels: &mut Working)
+    requires { ItemUsable head rules.now i }
+    ensures { Lowers head rules.now i (i + 1) labels.old labels.new }
 {
-    let mut v: u64 = 0;
-    while v <= TOP_LEVEL {
-        if try_level(rules, head, i, v, levels, marks) {
+    for v in 0..=TOP_LEVEL {
+        if try_level(rules, head, i, v, labels) {
             return;
         }
-        v += 1;
     }
 }
 
 // Lowers every item in turn.
-pub(crate) fn lower_all(rules: &[u64], head: Head, levels: &mut [u64], marks: &mut [u64])
-    requires { Usable head rules.now (held levels.old marks.old) }
-    ensures { Lowers head rules.now 0 head.items (held levels.old marks.old) (held levels.new marks.new) }
+pub(crate) fn lower_all(rules: &[u64], head: Head, labels: &mut Working)
+    requires { Usable head rules.now }
+    ensures { Lowers head rules.now 0 head.items labels.old labels.new }
 {
-    let mut item: usize = 0;
-    while item < head.items {
-        lower_item(rules, head, item, levels, marks);
-        item += 1;
+    for item in 0..head.items {
+        lower_item(rules, head, item, labels);
     }
 }

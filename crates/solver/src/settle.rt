@@ -1,48 +1,46 @@
 // Settling: labels are lowered until every cap and every follow is met. What is left is the greatest labelling below the
 // labels that it starts from, in every part by itself.
-ghost use Rattle.std.specs.Prelude.{◌≡◌, ◌+◌, ◌<◌};
-ghost use Rattle.labels.specs.Labels.{Room};
-ghost use Rattle.solver.specs.Solving.{held};
-ghost use Rattle.solver.specs.InnerSteps.{NamesLabelled, Usable, LowersItem, PushesRule, Sweeps, Settles, meant_at, sweep_turn};
+ghost use Rattle.std.specs.Prelude.{◌≡◌, ◌<◌};
+ghost use Rattle.refusals.specs.Sizes.{most_items};
+ghost use Rattle.solver.specs.InnerSteps.{Named, Usable, LowersItem, PushesRule, Sweeps, Settles, meant_at, sweep_turn};
 
+use super::Working;
 use super::floors::unheld;
 use classes::Class;
+use labels::Labelled;
 use rules::{CAP, FLOOR, Head, left_join, rule_at};
 
 // Lowers item i to the common part of its label and a bound. Answers whether that changed anything.
-fn lower(levels: &mut [u64], marks: &mut [u64], i: usize, bound: Class) -> bool
-    requires { Room (i + 1) levels.old marks.old }
-    ensures { LowersItem i bound (held levels.old marks.old) (held levels.new marks.new) result }
+fn lower(labels: &mut Working, i: usize, bound: Class) -> bool
+    requires { i < most_items }
+    ensures { LowersItem i bound labels.old labels.new result }
 {
-    let old = Class::new(levels[i], marks[i]);
+    let old = labels.label(i as u64);
     if bound.covers(old) {
         return false;
     }
-    let new = old.common(bound);
-    levels[i] = new.level;
-    marks[i] = new.marks;
+    labels[i] = old.common(bound);
     true
 }
 
 // Lowers the item that rule r bounds from above to what the rule allows. Answers whether that changed anything.
-fn push(rules: &[u64], r: usize, levels: &mut [u64], marks: &mut [u64]) -> bool
-    requires { NamesLabelled (meant_at rules.now r) (held levels.old marks.old) }
-    ensures { PushesRule (meant_at rules.now r) (held levels.old marks.old) (held levels.new marks.new) result }
+fn push(rules: &[u64], r: usize, labels: &mut Working) -> bool
+    requires { Named (meant_at rules.now r) }
+    ensures { PushesRule (meant_at rules.now r) labels.old labels.new result }
 {
     let rule = rule_at(rules, r);
-    if rule.kind == CAP {
-        let i = rule.left[0] as usize;
-        return lower(levels, marks, i, rule.class);
+    match rule.kind {
+        CAP => lower(labels, rule.left[0] as usize, rule.class),
+        FLOOR => false,
+        _ => {
+            let join = left_join(rule, labels);
+            lower(labels, rule.right as usize, join)
+        }
     }
-    if rule.kind == FLOOR {
-        return false;
-    }
-    let join = left_join(rule, levels, marks);
-    let i = rule.right as usize;
-    lower(levels, marks, i, join)
 }
 
 // The rule of the k-th turn: from the first rule on, or back from the last.
+#[tactic(auto, using(crate::proofs::Sweep::turn_back))]
 fn turn(back: bool, m: usize, k: usize) -> usize
     requires { k < m }
     ensures { result ≡ sweep_turn back m k }
@@ -51,30 +49,28 @@ fn turn(back: bool, m: usize, k: usize) -> usize
 }
 
 // Pushes every rule once. Answers whether that changed anything.
-fn sweep(rules: &[u64], head: Head, back: bool, levels: &mut [u64], marks: &mut [u64]) -> bool
-    requires { Usable head rules.now (held levels.old marks.old) }
-    ensures { Sweeps head rules.now (held levels.old marks.old) (held levels.new marks.new) result }
+fn sweep(rules: &[u64], head: Head, back: bool, labels: &mut Working) -> bool
+    requires { Usable head rules.now }
+    ensures { Sweeps head rules.now labels.old labels.new result }
 {
     let mut changed = false;
-    let mut k: usize = 0;
-    while k < head.rules {
-        let r = turn(back, head.rules, k);
-        let fell = push(rules, r, levels, marks);
-        changed = changed | fell;
-        k += 1;
+    for k in 0..head.rules {
+        changed |= push(rules, turn(back, head.rules, k), labels);
     }
     changed
 }
 
 // Lowers labels until every cap and every follow is met, and answers the parts in which some floor is then not met. Sweeps go
-// forward and back in turn, so that a chain of follows in either order needs no sweep for each link.
-pub(crate) fn settle(rules: &[u64], head: Head, levels: &mut [u64], marks: &mut [u64]) -> Class
-    requires { Usable head rules.now (held levels.old marks.old) }
-    ensures { Settles head rules.now (held levels.old marks.old) (held levels.new marks.new) result }
+// forward and back in turn, so that a chain of follows in either order needs no sweep for each link. The loop stays: how many sweeps
+// there are is known only once one changes nothing.
+#[tactic(auto, using(crate::proofs::Sweep::settling_none, crate::proofs::Sweep::settling_more, crate::proofs::Sweep::settling_less, crate::proofs::Sweep::settling_end))]
+pub(crate) fn settle(rules: &[u64], head: Head, labels: &mut Working) -> Class
+    requires { Usable head rules.now }
+    ensures { Settles head rules.now labels.old labels.new result }
 {
     let mut back = false;
-    while sweep(rules, head, back, levels, marks) {
+    while sweep(rules, head, back, labels) {
         back = !back;
     }
-    unheld(rules, head, levels, marks)
+    unheld(rules, head, labels)
 }

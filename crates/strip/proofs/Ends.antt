@@ -1,6 +1,7 @@
 -- A run exists and ends, for every rulebook, every class and every export: there are a text and a verdict to which it leads. It rests on that there is an answer to every
 -- rulebook, class and header, and that the calls of `strip` end.
 -- Assumes nothing.
+use Rattle.std.specs.Prelude.{Result, Ok, Err}
 use Rattle.std.proofs.Common.{◌≡◌, ℕ, zero, suc, ◌+◌, ◌<◌, ◌≤◌, Bool, false, List, [], ◌∷◌, length, take, sym, refl, ap, subst, append-nil, arith}
 use Rattle.refusals.specs.Sizes.{most_text}
 use Rattle.records.specs.Rows.{most_fields, most_bytes, line_end}
@@ -9,7 +10,6 @@ use Rattle.assign.proofs.Labelled.{labelled_right, levels_in_range}
 use Rattle.exports.specs.Text.{Verdict, refused}
 use Rattle.columns.specs.Columns.{said_more}
 use Rattle.columns.specs.Reader.{said_reader, reader_of}
-use Rattle.columns.specs.declared.Reader.{Reader}
 use Rattle.columns.proofs.Answered.{ColumnsAnswered, columns_answered}
 use Rattle.columns.proofs.Answered as header
 use Rattle.stripping.specs.Calls.{all_of, none_to_come}
@@ -17,6 +17,8 @@ use Rattle.stripping.proofs.Ends.{calls_end}
 use Rattle.stripping.proofs.Reading.{left_to_read, read_fits, read_less, some_read}
 use Rattle.strip.specs.Runs.{LentRoom, Opened, Opens, OpenedSays, by_book, by_class, by_header, LeftOf, Runs, waits, strips, refuses}
 use Rattle.strip.proofs.Runs.{runs_leave}
+use Rattle.refusals.specs.declared.Refusal.{Refusal}
+use Rattle.classes.specs.declared.Class.{Class}
 
 -- A text and a verdict to which a run leads.
 abbrev SomeRun : LentRoom → List ℕ → List ℕ → List ℕ → List (List ℕ) → Type 0
@@ -71,9 +73,9 @@ module _ {room : LentRoom} (fields : most_fields ≤ length room.columns) where
       by_answer (assigned.refuses_book r p) = ([], (refused r, refuses (by_book p)))
       by_answer (assigned.labels_book {h} {after} p) = by_reader (reader_of class) refl
         where
-          by_reader : (r : Reader) → reader_of class ≡ r → SomeRun room book class [] pieces
-          by_reader (Reader.Refused r) e = ([], (refused r, refuses (by_class p (record { answer = ap said_reader (sym e) }))))
-          by_reader (Reader.Known c) e =
+          by_reader : (r : Result Class Refusal) → reader_of class ≡ r → SomeRun room book class [] pieces
+          by_reader (Err r) e = ([], (refused r, refuses (by_class p (record { answer = ap said_reader (sym e) }))))
+          by_reader (Ok c) e =
               opened_ends {o = record { head = h; labels = after; reader = c }} (record { assigned = p; known = record { answer = ap said_reader (sym e) } })
               (left_to_read pieces) pieces (omega arith) [] (omega arith)
 

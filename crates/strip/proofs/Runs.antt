@@ -1,20 +1,18 @@
 -- However an export is cut into pieces, a run writes what is left of the whole export and says what is said of it; there is only one answer; and exports that
 -- differ only in columns held back leave the same bytes. It rests on the same of the calls of `strip` and of `kept_columns`.
 -- Assumes nothing.
+use Rattle.std.specs.Prelude.{Ok, Err, Some}
 use Rattle.std.proofs.Common.{◌≡◌, ℕ, Bool, true, List, [], ◌∷◌, ◌++◌, take, sym, refl, ap, ◌∙◌, subst, append-nil, arith}
 use Rattle.classes.specs.declared.Class.{Class}
 use Rattle.refusals.specs.declared.Refusal.{Refusal}
 use Rattle.refusals.specs.Said.{Said}
 use Rattle.rules.specs.declared.Head.{Head}
 use Rattle.assign.specs.Assigning.{Lent, said_head, said_assigned, AssignSays}
-use Rattle.assign.specs.declared.Assigned.{Assigned}
 use Rattle.assign.proofs.Unique.{assign_unique}
 use Rattle.exports.specs.Text.{Verdict, accepted, refused, Outcome, stripped_from}
 use Rattle.exports.proofs.HeldBack.{held_back_leaves_no_trace}
 use Rattle.columns.specs.Reader.{said_reader, ReaderSays}
-use Rattle.columns.specs.declared.Reader.{Reader}
 use Rattle.columns.specs.Columns.{said_kept, said_more, said_columns}
-use Rattle.columns.specs.declared.Columns.{Columns}
 use Rattle.columns.proofs.Unique.{Same, columns_unique, reader_unique}
 use Rattle.columns.proofs.Pieces.{columns_stay}
 use Rattle.stripping.specs.Calls.{all_of, none_to_come}
@@ -57,7 +55,7 @@ runs_leave {held = held} {pieces} (refuses p) = refused_first (whole_refused hel
 
 -- A book and a class are opened in one way.
 labelled_same : {book : List ℕ} {lent a b : Lent} {h k : Head} → AssignSays book lent (said_head h) a → AssignSays book lent (said_head k) b → (h ≡ k) × (a ≡ b)
-labelled_same {h = h} {k} p q = let same = assign_unique {x = Assigned.Labelled h} {y = Assigned.Labelled k} p q in let e = same.0 in (cc, same.1)
+labelled_same {h = h} {k} p q = let same = assign_unique {x = Ok h} {y = Ok k} p q in let e = same.0 in (cc, same.1)
 
 abbrev opened_by : Head → Lent → Class → Opened
 opened_by h labels reader = record { head = h; labels = labels; reader = reader }
@@ -72,7 +70,7 @@ opens_unique {o = o} {u} p q =
     same = labelled_same p.assigned q.assigned
 
     reader : o.reader ≡ u.reader
-    reader = let e = reader_unique {r = Reader.Known o.reader} {s = Reader.Known u.reader} p.known q.known in cc
+    reader = let e = reader_unique {r = Ok o.reader} {s = Ok u.reader} p.known q.known in cc
 
 -- The columns that are kept are the same whenever they are asked for.
 pub kept_unique : {room : LentRoom} {book class export : List ℕ} {last : Bool} {k m : List Bool} → KeptIn room book class export last k
@@ -83,32 +81,32 @@ kept_unique {room} {export = export} {last} p q =
     moved : OpenedSays p.opened export last room.columns (said_kept q.count) q.after
     moved = subst (λ (o : Opened). OpenedSays o export last room.columns (said_kept q.count) q.after) (opens_unique q.opens p.opens) q.says
 
-    same : Same (Columns.Kept p.count) (Columns.Kept q.count) p.after q.after
+    same : Same (Ok (Some p.count)) (Ok (Some q.count)) p.after q.after
     same = columns_unique p.says moved
 
     count : p.count ≡ q.count
     count = let e = same.answer in cc
 
-never : {book : List ℕ} {lent a b : Lent} (r : Refusal) {h : Head} → AssignSays book lent (said_assigned (Assigned.Refused r)) a → AssignSays book lent (said_head h) b → ⊥
-never r {h} p q = let e = (assign_unique {x = Assigned.Refused r} {y = Assigned.Labelled h} p q).0 in let z : ◌≡◌ {A = ℕ} 0 1 = cc in omega arith
+never : {book : List ℕ} {lent a b : Lent} (r : Refusal) {h : Head} → AssignSays book lent (said_assigned (Err r)) a → AssignSays book lent (said_head h) b → ⊥
+never r {h} p q = let e = (assign_unique {x = Err r} {y = Ok h} p q).0 in let z : ◌≡◌ {A = ℕ} 0 1 = cc in omega arith
 
-no_reader : {class : List ℕ} (r : Refusal) {c : Class} → ReaderSays class (said_reader (Reader.Refused r)) → ReaderSays class (said_reader (Reader.Known c)) → ⊥
-no_reader r {c} p q = let e = reader_unique {r = Reader.Refused r} {s = Reader.Known c} p q in let z : ◌≡◌ {A = ℕ} 0 1 = cc in omega arith
+no_reader : {class : List ℕ} (r : Refusal) {c : Class} → ReaderSays class (said_reader (Err r)) → ReaderSays class (said_reader (Ok c)) → ⊥
+no_reader r {c} p q = let e = reader_unique {r = Err r} {s = Ok c} p q in let z : ◌≡◌ {A = ℕ} 0 1 = cc in omega arith
 
 -- Refused first, or columns are kept, and never both; and the refusal is one.
 refused_same : {room : LentRoom} {book class export : List ℕ} {last : Bool} {r s : Refusal} → RefusedFirst room book class export last r
     → RefusedFirst room book class export last s → r ≡ s
-refused_same {r = r} {s} (by_book p) (by_book q) = let e = (assign_unique {x = Assigned.Refused r} {y = Assigned.Refused s} p q).0 in cc
+refused_same {r = r} {s} (by_book p) (by_book q) = let e = (assign_unique {x = Err r} {y = Err s} p q).0 in cc
 refused_same {r = r} {s} (by_book p) (by_class q c) = absurd (never r p q)
 refused_same {r = r} {s} (by_book p) (by_header o fits q) = absurd (never r p o.assigned)
 refused_same {r = r} {s} (by_class p c) (by_book q) = absurd (never s q p)
-refused_same {r = r} {s} (by_class p c) (by_class q d) = let e = reader_unique {r = Reader.Refused r} {s = Reader.Refused s} c d in cc
+refused_same {r = r} {s} (by_class p c) (by_class q d) = let e = reader_unique {r = Err r} {s = Err s} c d in cc
 refused_same {r = r} {s} (by_class p c) (by_header o fits q) = absurd (no_reader r c o.known)
 refused_same {r = r} {s} (by_header o fits p) (by_book q) = absurd (never s q o.assigned)
 refused_same {r = r} {s} (by_header o fits p) (by_class q d) = absurd (no_reader s d o.known)
 refused_same {room} {export = export} {last} {r} {s} (by_header p x y) (by_header {after = after} q z w) =
-    let moved = subst (λ (v : Opened). OpenedSays v export last room.columns (said_columns (Columns.Refused s)) after) (opens_unique q p) w in
-    let e = (columns_unique {r = Columns.Refused r} {s = Columns.Refused s} y moved).answer in
+    let moved = subst (λ (v : Opened). OpenedSays v export last room.columns (said_columns (Err s)) after) (opens_unique q p) w in
+    let e = (columns_unique {r = Err r} {s = Err s} y moved).answer in
     cc
 
 not_kept : {room : LentRoom} {book class export : List ℕ} {last : Bool} {r : Refusal} {k : List Bool} → RefusedFirst room book class export last r
@@ -116,8 +114,8 @@ not_kept : {room : LentRoom} {book class export : List ℕ} {last : Bool} {r : R
 not_kept {r = r} (by_book p) q = never r p q.opens.assigned
 not_kept {r = r} (by_class p c) q = no_reader r c q.opens.known
 not_kept {room} {export = export} {last} {r} (by_header {after = after} p x y) q =
-    let moved = subst (λ (v : Opened). OpenedSays v export last room.columns (said_columns (Columns.Refused r)) after) (opens_unique p q.opens) y in
-    let e = (columns_unique {r = Columns.Refused r} {s = Columns.Kept q.count} moved q.says).answer in
+    let moved = subst (λ (v : Opened). OpenedSays v export last room.columns (said_columns (Err r)) after) (opens_unique p q.opens) y in
+    let e = (columns_unique {r = Err r} {s = Ok (Some q.count)} moved q.says).answer in
     let z : ◌≡◌ {A = ℕ} 0 1 = cc in
     omega arith
 

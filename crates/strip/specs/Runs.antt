@@ -1,20 +1,17 @@
 -- The whole way of the program, but for input and output: what is left of an export by a rulebook and a reader's class; and the calls that a run makes on the
 -- pieces that it reads.
 -- Assumes nothing.
-use Rattle.std.specs.Prelude.{◌≡◌, ℕ, ◌≤◌, Bool, true, false, List, [], length, take}
+use Rattle.std.specs.Prelude.{◌≡◌, ℕ, ◌≤◌, Bool, true, false, List, [], length, take, Err, Ok}
 use Rattle.classes.specs.declared.Class.{Class}
 use Rattle.refusals.specs.declared.Refusal.{Refusal}
 use Rattle.refusals.specs.Said.{Said}
 use Rattle.rules.specs.declared.Head.{Head}
 use Rattle.assign.specs.Assigning.{Lent, said_head, said_assigned, AssignSays}
-use Rattle.assign.specs.declared.Assigned.{Assigned}
 use Rattle.records.specs.Rows.{most_fields}
 use Rattle.exports.specs.Rows.{taken}
 use Rattle.exports.specs.Text.{Verdict, refused, stripped_from, HeldBackApart}
 use Rattle.columns.specs.Reader.{said_reader, ReaderSays}
-use Rattle.columns.specs.declared.Reader.{Reader}
 use Rattle.columns.specs.Columns.{said_kept, said_more, said_columns, ColumnsSays}
-use Rattle.columns.specs.declared.Columns.{Columns}
 use Rattle.stripping.specs.Calls.{none_to_come, NextRead, Calls}
 
 -- The buffers that are lent for the items, their labels and the columns.
@@ -31,7 +28,7 @@ pub record Opened : Type 0 where
 -- The book is labelled, and the class is one.
 pub record Opens (room : LentRoom) (book class : List ℕ) (o : Opened) : Type 0 where
   pub assigned : AssignSays book room.labelled (said_head o.head) o.labels
-  pub known : ReaderSays class (said_reader (Reader.Known o.reader))
+  pub known : ReaderSays class (said_reader (Ok o.reader))
 
 -- What is said of the columns of an export.
 abbrev pub OpenedSays : Opened → List ℕ → Bool → List Bool → Said → List Bool → Type 0
@@ -50,11 +47,11 @@ pub record KeptIn (room : LentRoom) (book class export : List ℕ) (last : Bool)
 -- "The book's own come first; then 12 with place 0 for a reader's class that isn't one", then the header's. Every header has room in the buffer that is lent for
 -- the columns.
 pub data RefusedFirst (room : LentRoom) (book class export : List ℕ) (last : Bool) : Refusal → Type 0 where
-  by_book : {r : Refusal} {labels : Lent} → AssignSays book room.labelled (said_assigned (Assigned.Refused r)) labels → RefusedFirst room book class export last r
-  by_class : {r : Refusal} {h : Head} {labels : Lent} → AssignSays book room.labelled (said_head h) labels → ReaderSays class (said_reader (Reader.Refused r)) →
+  by_book : {r : Refusal} {labels : Lent} → AssignSays book room.labelled (said_assigned (Err r)) labels → RefusedFirst room book class export last r
+  by_class : {r : Refusal} {h : Head} {labels : Lent} → AssignSays book room.labelled (said_head h) labels → ReaderSays class (said_reader (Err r)) →
       RefusedFirst room book class export last r
   by_header : {r : Refusal} {o : Opened} {after : List Bool} → Opens room book class o → most_fields ≤ length room.columns →
-      OpenedSays o export last room.columns (said_columns (Columns.Refused r)) after → RefusedFirst room book class export last r
+      OpenedSays o export last room.columns (said_columns (Err r)) after → RefusedFirst room book class export last r
 
 -- What is left of an export: nothing where the book, the class or the header is refused; else its records, the header first, with the columns that are kept,
 -- up to a bad one.

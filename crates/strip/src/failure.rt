@@ -6,7 +6,8 @@ use std::{fmt, io};
 // What the text of an error has between its words and its number.
 const NUMBER: &str = " (os error ";
 
-// Standard error, as far as the words of an error go.
+// Standard error, as far as the words of an error go. The flag stays: an error is written piece by piece, and a writer has no other place to keep that the
+// words have ended.
 #[derive(Drop)]
 struct Words {
     out: Stderr,

@@ -1,33 +1,28 @@
 // Reading standard input into a buffer. A read into a buffer with no room left would look like the end of the input, so that none is made.
-ghost use Rattle.std.specs.Prelude.{◌≡◌, ◌<◌, ◌≤◌, length, IfOk, OnErr};
+ghost use Rattle.std.specs.Prelude.{◌≡◌, ◌<◌, ◌≤◌, length, IfOk, IfSome, OnErr};
 
 use crate::failure::fail;
 use std::io;
 use std::io::Read;
 
-// How many bytes a buffer holds, whether the input has ended, and whether reading failed.
-#[derive(Clone, Copy)]
+// How many bytes a buffer holds, and whether the input has ended.
+#[derive(Clone, Copy, Debug, PartialEq, Eq)]
 pub(crate) struct Input {
     pub(crate) have: usize,
     pub(crate) last: bool,
-    pub(crate) failed: bool,
 }
 
-// One read of standard input behind the bytes that are held, however many bytes it gives. That it fails is said on standard error.
-pub(crate) fn read_on(rt: &HostRuntime, buf: &mut [u8], have: usize) -> io::Result<Input>
+// One read of standard input behind the bytes that are held, however many bytes it gives. Where it fails, that is said on standard error, and there is None.
+pub(crate) fn read_on(rt: &HostRuntime, buf: &mut [u8], have: usize) -> io::Result<Option<Input>>
     requires { have < length buf.old }
-    ensures ok { IfOk result (λ i. i.have ≤ length buf.new) }
+    ensures ok { IfOk result (λ o. IfSome o (λ i. i.have ≤ length buf.new)) }
     ensures err { OnErr result (length buf.new ≡ length buf.old) }
 {
     match read_once(&mut rt.stdin(), buf, have) {
-        Ok(input) => Ok(input),
+        Ok(input) => Ok(Some(input)),
         Err(error) => {
             fail(rt, "standard input", error)?;
-            Ok(Input {
-                have,
-                last: false,
-                failed: true,
-            })
+            Ok(None)
         }
     }
 }
@@ -39,7 +34,6 @@ pub(crate) fn nothing() -> Input
     Input {
         have: 0,
         last: false,
-        failed: false,
     }
 }
 
@@ -54,6 +48,5 @@ fn read_once<R: Read>(input: &mut R, buf: &mut [u8], have: usize) -> io::Result<
     Ok(Input {
         have: have + n,
         last: n == 0,
-        failed: false,
     })
 }

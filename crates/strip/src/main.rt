@@ -11,11 +11,12 @@ mod input;
 mod refusal;
 
 use arguments::{are_two, argument};
-use assign::{Assigned, assign};
-use columns::{Reader, reader_class};
+use assign::assign;
+use columns::reader_class;
 use export::strip_export;
 use failure::fail;
 use fills::fill;
+use labels::Labels;
 use refusal::refuse;
 use refusals::{MOST_ITEMS, MOST_TEXT};
 use rules::Head;
@@ -57,26 +58,29 @@ fn read_book(rt: &HostRuntime, path: &str, book: &mut [u8]) -> io::Result<usize>
 // Labels the book, and strips the export by it if it is not refused.
 fn run(rt: &HostRuntime, book: &[u8]) -> io::Result<()> {
     let mut items = [0u8; items::WHOLE_TABLE];
+    // Two arrays: `assign` writes two lent buffers.
     let mut levels = [0u64; MOST_ITEMS];
     let mut marks = [0u64; MOST_ITEMS];
     match assign(book, &mut items, &mut levels, &mut marks) {
-        Assigned::Labelled(head) => run_labelled(rt, &items, head, &levels, &marks),
-        Assigned::Refused(refusal) => refuse(rt, refusal),
+        Ok(head) => run_labelled(
+            rt,
+            &items,
+            head,
+            Labels {
+                levels: &levels,
+                marks: &marks,
+            },
+        ),
+        Err(refusal) => refuse(rt, refusal),
     }
 }
 
 // Strips the export for the class that the second argument gives, if it is one. An argument that is too long for the buffer is no class.
-fn run_labelled(
-    rt: &HostRuntime,
-    items: &[u8],
-    head: Head,
-    levels: &[u64],
-    marks: &[u64],
-) -> io::Result<()> {
+fn run_labelled(rt: &HostRuntime, items: &[u8], head: Head, labels: Labels) -> io::Result<()> {
     let mut class = [0u8; 64];
     let k = argument(rt, 2, &mut class).unwrap_or(0);
     match reader_class(&class[..k]) {
-        Reader::Known(reader) => strip_export(rt, items, head, levels, marks, reader),
-        Reader::Refused(refusal) => refuse(rt, refusal),
+        Ok(reader) => strip_export(rt, items, head, labels, reader),
+        Err(refusal) => refuse(rt, refusal),
     }
 }

@@ -5,12 +5,14 @@ use mathlib.Core.Bool.{Bool, true, false, not}
 use mathlib.Core.List.{List, [], ◌∷◌, ◌++◌}
 use Prim.Native.Nat.{ℕ, ◌+◌, ◌-◌, ◌^◌, ◌≤◌, ◌<◌, zero-le}
 use native.Mathlib.Nat.{add-zero}
+use native.Mathlib.Decide.{dec_lt}
 use native.Mathlib.Omega.{arith}
 use lib.ListN.{length, take, drop, set, length-append}
 use lib.Seq.{take-take, length-take-le, take_at, drop_at, drop-drop}
 use mir.Syntax.{w64}
 use mir.Val.{Fits}
 use borrow.Author.Tests.{lt-ltb, le-ltb}
+use Rattle.std.specs.Prelude.{Option, Some, IsSome}
 use Rattle.puts.specs.Writing.{Put}
 use Rattle.laws.specs.Over.{over}
 use Rattle.puts.proofs.Placed.{put_buffer, put_next}
@@ -29,7 +31,7 @@ pub made_size : {d : List ℕ} {to : ℕ} {x d' : List ℕ} → Made d to x d' �
 made_size {d} {to} {x} p = ap length p.buffer ∙ over_length d to x p.room
 
 -- What a put with room makes.
-pub put_made : {d : List ℕ} {to : ℕ} {x d' : List ℕ} {r : ℕ} → Put d to x d' r → to + length x ≤ length d → Made d to x d'
+pub put_made : {d : List ℕ} {to : ℕ} {x d' : List ℕ} {r : Option ℕ} → Put d to x d' r → to + length x ≤ length d → Made d to x d'
 put_made p h = record { buffer = put_buffer p h; room = h }
 
 -- One text behind another.
@@ -48,46 +50,64 @@ pub keeps_none : (f : List ℕ) (kept : Bool) (d : List ℕ) (to : ℕ) → not 
 keeps_none f true d to h ready = let z : ◌≡◌ {A = ℕ} 0 1 = cc in absurd (omega arith)
 keeps_none f false d to h ready = record { made = made_none d to (omega (arith, ready.room)); next = sym (add-zero to) }
 
-module _ (f d : List ℕ) (to : ℕ) {x d₁ : List ℕ} {r : ℕ} (ready : KeepReady f d to) (e : x ≡ f) (p : Put d to x d₁ r) where
-  same : Put d to f d₁ r
-  same = subst (λ (y : List ℕ). Put d to y d₁ r) e p
+-- A put that has room answers the place behind it.
+put_some : {d : List ℕ} {to : ℕ} {x d' : List ℕ} {o : Option ℕ} → Put d to x d' o → to + length x ≤ length d → IsSome o
+put_some p h = rw (put_next p h) refl
+
+put_behind : {d : List ℕ} {to : ℕ} {x d' : List ℕ} {o : Option ℕ} {r : ℕ} → Put d to x d' o → to + length x ≤ length d → o ≡ Some r → r ≡ to + length x
+put_behind {to = to} {x = x} {r = r} p h some = let both : ◌≡◌ {A = Option ℕ} (Some r) (Some (to + length x)) = sym some ∙ put_next p h in cc
+
+module _ (f d : List ℕ) (to : ℕ) {x d₁ : List ℕ} {o : Option ℕ} (ready : KeepReady f d to) (e : x ≡ f) (p : Put d to x d₁ o) where
+  same : Put d to f d₁ o
+  same = subst (λ (y : List ℕ). Put d to y d₁ o) e p
 
   fits : to + length f ≤ length d
   fits = omega (arith, ready.room)
 
-  next : r ≡ to + length f
-  next = put_next same fits
+  pub keep_some : IsSome o
+  keep_some = put_some same fits
 
-  size : length d₁ ≡ length d
-  size = made_size (put_made same fits)
+  module _ {r : ℕ} (some : o ≡ Some r) where
+    next : r ≡ to + length f
+    next = put_behind same fits some
 
-  -- There is room for the comma.
-  pub comma_in : r < length d₁
-  comma_in = omega (arith, next, size, ready.room)
+    size : length d₁ ≡ length d
+    size = made_size (put_made same fits)
 
-  pub comma_fits : length d < 2 ^ 64 → Fits w64 (r + 1)
-  comma_fits h = record { fits = omega (arith, next, ready.room) }
+    -- There is room for the comma.
+    pub comma_in : r < length d₁
+    comma_in = omega (arith, next, size, ready.room)
 
-  pub keeps_put : (kept : Bool) → not kept ≡ false → Keeps f kept d to (r + 1) (set d₁ r comma)
-  keeps_put false h = let z : ◌≡◌ {A = ℕ} 0 1 = cc in absurd (omega arith)
-  keeps_put true h = record {
-    made = made_made (put_made same fits) (subst (λ (k : ℕ). Made d₁ k (comma ∷ []) (set d₁ r comma)) next (set_made d₁ r comma comma_in));
-    next = omega (arith, next, length-append f (comma ∷ []));
-  }
+    pub comma_fits : length d < 2 ^ 64 → Fits w64 (r + 1)
+    comma_fits h = record { fits = omega (arith, next, ready.room) }
+
+    pub keeps_put : (kept : Bool) → not kept ≡ false → Keeps f kept d to (r + 1) (set d₁ r comma)
+    keeps_put false h = let z : ◌≡◌ {A = ℕ} 0 1 = cc in absurd (omega arith)
+    keeps_put true h = record {
+      made = made_made (put_made same fits) (subst (λ (k : ℕ). Made d₁ k (comma ∷ []) (set d₁ r comma)) next (set_made d₁ r comma comma_in));
+      next = omega (arith, next, length-append f (comma ∷ []));
+    }
 
 -- The line end behind what was made, over the comma behind the last field or at the place itself.
-pub ends_over : (d : List ℕ) (to n : ℕ) {d' : List ℕ} {r : ℕ} → EndReady d to n → to < n → Put d (n - 1) (cr ∷ lf ∷ []) d' r
-    → EndsLine d to n r d'
-ends_over d to n ready h p = record {
-  made = rw (lt-ltb to n h) (put_made p (omega (arith, h, ready.over_comma h)));
-  next = rw (lt-ltb to n h) (put_next p (omega (arith, h, ready.over_comma h)));
-}
+pub over_place : (to n : ℕ) {at : ℕ} → to < n → at ≡ n - 1 → at ≡ line_place to n
+over_place to n h e = rw (lt-ltb to n h) e
 
-pub ends_here : (d : List ℕ) (to n : ℕ) {d' : List ℕ} {r : ℕ} → EndReady d to n → n ≤ to → Put d n (cr ∷ lf ∷ []) d' r → EndsLine d to n r d'
-ends_here d to n ready h p = record {
-  made = rw (le-ltb to n h) (put_made p (ready.here h));
-  next = rw (le-ltb to n h) (put_next p (ready.here h));
-}
+pub own_place : (to n : ℕ) {at : ℕ} → n ≤ to → at ≡ n → at ≡ line_place to n
+own_place to n h e = rw (le-ltb to n h) e
+
+module _ (d : List ℕ) (to n : ℕ) (ready : EndReady d to n) {at : ℕ} (here : at ≡ line_place to n) {d' : List ℕ} {o : Option ℕ} (p : Put d at (cr ∷ lf ∷ []) d' o) where
+  end_room : at + 2 ≤ length d
+  end_room = by (dec_lt to n)
+    where
+      by : Dec (to < n) → at + 2 ≤ length d
+      by (yes h) = let e : at ≡ n - 1 = rw (lt-ltb to n h) at here in omega (arith, h, ready.over_comma h)
+      by (no h) = let e : at ≡ n = rw (le-ltb to n (omega arith)) at here in omega (arith, ready.here (omega arith))
+
+  pub end_some : IsSome o
+  end_some = put_some p end_room
+
+  pub ends_line : {r : ℕ} → o ≡ Some r → EndsLine d to n r d'
+  ends_line some = record { made = rw here at (put_made p end_room); next = rw here at (put_behind p end_room some) }
 
 -- What is put over a shorter text at the same place leaves nothing of it.
 over_again : (d : List ℕ) (at : ℕ) (y z : List ℕ) → length y ≤ length z → at + length z ≤ length d → over (over d at y) at z ≡ over d at z

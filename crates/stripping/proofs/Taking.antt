@@ -16,30 +16,32 @@ use Rattle.records.specs.Rows.{most_fields, RowSays, start_at}
 use Rattle.records.specs.declared.Extent.{Extent}
 use Rattle.records.specs.Inner.{FieldSpans, fields_to}
 use Rattle.records.specs.declared.Size.{Size}
+use Rattle.std.specs.Prelude.{cond, Some, None}
 use Rattle.records.proofs.Parts.{row_length}
 use Rattle.exports.specs.Rows.{Taken, taken}
 use Rattle.exports.specs.Text.{record_lines, record_line}
 use Rattle.exports.proofs.Gone.{Gone, gone_start, gone_on, gone_end, gone_more, gone_bad}
 use Rattle.exports.proofs.Joining.{lines_none, lines_one_more}
-use Rattle.stripping.specs.Inner.{Made, NoLonger, PutReady, RowPut, TakeReady, FrontSays, fitted_size, is_bad}
+use Rattle.stripping.specs.declared.Cut.{Cut}
+use Rattle.stripping.specs.Inner.{Made, NoLonger, PutReady, RowPut, TakeReady, front_cut, FrontSays, fitted_size}
 use Rattle.stripping.proofs.Making.{made_none, made_made, made_size}
 use Rattle.stripping.proofs.Rows.{RowFits, fits_found, RowFound, is_whole, is_more, is_bad_lem, row_found}
 
--- What the loop over the records keeps from turn to turn: n records are taken, up to a place, and their lines are put.
-pub record TakeAt (l : List ℕ) (last : Bool) (kept : List Bool) (d₀ d ends : List ℕ) (at to n : ℕ) : Type 0 where
+-- What the loop over the records keeps from turn to turn: so many records are taken, up to a place, and their lines are put.
+pub record TakeAt (l : List ℕ) (last : Bool) (kept : List Bool) (d₀ d ends : List ℕ) (cut : Cut) : Type 0 where
   pub ready : TakeReady l kept d₀
   pub rows : List (List (List ℕ))
-  pub gone : Gone last (length kept) l rows at
+  pub gone : Gone last (length kept) l rows cut.used
   pub made : Made d₀ 0 (record_lines kept rows) d
-  pub len : to ≡ length (record_lines kept rows)
-  pub count : length rows ≡ n
-  pub few : n ≤ at
-  pub fits : NoLonger l at to
+  pub len : cut.len ≡ length (record_lines kept rows)
+  pub count : length rows ≡ cut.records
+  pub few : cut.records ≤ cut.used
+  pub fits : NoLonger l cut.used cut.len
   pub size : length d ≡ length d₀
   pub many : length ends ≡ most_fields
 
 pub take_none : {l : List ℕ} (last : Bool) {kept : List Bool} {d : List ℕ} (ends : List ℕ) → TakeReady l kept d → length ends ≡ most_fields
-    → TakeAt l last kept d d ends 0 0 0
+    → TakeAt l last kept d d ends (record { used = 0; len = 0; records = 0 })
 take_none last {kept} {d} ends s z = record {
   ready = s;
   rows = [];
@@ -57,97 +59,78 @@ and_false : (b : Bool) → (b && false) ≡ false
 and_false true = refl
 and_false false = refl
 
--- Whether a record that is not whole is refused.
-module _ {n : ℕ} (found : Size) where
-  pub refuses_later : (n ≡ 0 → ⊥) → false ≡ (eqb n 0 && is_bad found)
-  refuses_later h = rw (ne_eqb n 0 h)
-
-  refuses_is : {x : Size} → n ≡ 0 → found ≡ x → is_bad x ≡ (eqb n 0 && is_bad found)
-  refuses_is h e = rw (eq-eqb n 0 h, e)
-
-  pub refuses_bad : n ≡ 0 → found ≡ Size.Bad → true ≡ (eqb n 0 && is_bad found)
-  refuses_bad = refuses_is
-
-  pub refuses_more : n ≡ 0 → found ≡ Size.More → false ≡ (eqb n 0 && is_bad found)
-  refuses_more = refuses_is
-
-  pub refuses_whole : {x : Extent} → n ≡ 0 → found ≡ Size.Whole x → false ≡ (eqb n 0 && is_bad found)
-  refuses_whole = refuses_is
-
-module _ {l : List ℕ} {last : Bool} {kept : List Bool} {d₀ d ends₀ : List ℕ} {at to n : ℕ} (p : TakeAt l last kept d₀ d ends₀ at to n) where
+module _ {l : List ℕ} {last : Bool} {kept : List Bool} {d₀ d ends₀ : List ℕ} {cut : Cut} (p : TakeAt l last kept d₀ d ends₀ cut) where
   -- There is room for the ends of all fields.
   room : length kept ≤ length ends₀
   room = omega (arith, p.many, p.ready.narrow)
 
   -- What is said of what was taken.
-  front : {faulty : Bool} → taken last (length kept) l ≡ record { rows = p.rows; used = at; faulty = faulty }
-      → FrontSays l last kept d₀ (record { cut = record { used = at; len = to; records = n }; refused = eqb n 0 && faulty }) d
+  front : {faulty : Bool} → taken last (length kept) l ≡ record { rows = p.rows; used = cut.used; faulty = faulty }
+      → FrontSays l last kept d₀ (cond (eqb cut.records 0 && faulty) None (Some cut)) d
   front {faulty} e = record {
-    used = sym (ap (λ (t : Taken). t.used) e);
-    made = subst (λ (x : List ℕ). Made d₀ 0 x d) (sym lines) p.made;
-    len = p.len ∙ sym (ap length lines);
-    records = sym p.count ∙ sym (ap (λ (t : Taken). length t.rows) e);
-    refused =
-        ap (λ (k : ℕ). eqb k 0 && faulty) (sym p.count)
-        ∙ sym (ap (λ (t : Taken). eqb (length t.rows) 0 && t.faulty) e);
+    made = subst (λ (x : List (List (List ℕ))). Made d₀ 0 (record_lines kept x) d) (sym (ap (λ (t : Taken). t.rows) e)) p.made;
+    cut = same ∙ sym (ap (front_cut kept) e);
   }
     where
-      lines : record_lines kept (taken last (length kept) l).rows ≡ record_lines kept p.rows
-      lines = ap (λ (t : Taken). record_lines kept t.rows) e
+      same : cond (eqb cut.records 0 && faulty) None (Some cut) ≡ front_cut kept (record { rows = p.rows; used = cut.used; faulty = faulty })
+      same = rw (p.count, ← p.len) refl
 
   -- The text is at its end.
-  pub take_end : length l ≤ at → FrontSays l last kept d₀ (record { cut = record { used = at; len = to; records = n }; refused = false }) d
-  take_end h =
-      subst (λ (b : Bool). FrontSays l last kept d₀ (record { cut = record { used = at; len = to; records = n }; refused = b }) d) (and_false (eqb n 0))
-      (front (gone_end p.gone h))
+  pub take_end : length l ≤ cut.used → FrontSays l last kept d₀ (Some cut) d
+  take_end h = rw (and_false (eqb cut.records 0)) at (front (gone_end p.gone h))
 
-  -- A record is not whole.
-  pub take_stopped : {found₀ found : Size} {ends : List ℕ} {b : Bool} → at < length l → RowSays l at last (length kept) ends₀ found₀ ends
-      → found ≡ fitted_size (length kept) found₀ → ((x : Extent) → found ≡ Size.Whole x → ⊥) → b ≡ (eqb n 0 && is_bad found)
-      → FrontSays l last kept d₀ (record { cut = record { used = at; len = to; records = n }; refused = b }) d
-  take_stopped {found = found} {ends} {b} h q f o e = by (row_found q f room h) o e
-    where
-      by : {r : Size} → RowFound l at last (length kept) ends r → ((x : Extent) → r ≡ Size.Whole x → ⊥) → b ≡ (eqb n 0 && is_bad r)
-          → FrontSays l last kept d₀ (record { cut = record { used = at; len = to; records = n }; refused = b }) d
-      by (is_whole w) x g = absurd (x _ refl)
-      by (is_more w) x g =
-          subst (λ (y : Bool). FrontSays l last kept d₀ (record { cut = record { used = at; len = to; records = n }; refused = y }) d) (sym g)
-          (front (gone_more p.gone w))
-      by (is_bad_lem w) x g =
-          subst (λ (y : Bool). FrontSays l last kept d₀ (record { cut = record { used = at; len = to; records = n }; refused = y }) d) (sym g)
-          (front (gone_bad p.gone h w))
+  -- A record is not whole: the first one is bad, or one is not at its end, or one is bad behind others.
+  module _ {found₀ found : Size} {ends : List ℕ} (h : cut.used < length l) (q : RowSays l cut.used last (length kept) ends₀ found₀ ends)
+      (f : found ≡ fitted_size (length kept) found₀) where
+    is_faulty : found ≡ Size.Bad → taken last (length kept) l ≡ record { rows = p.rows; used = cut.used; faulty = true }
+    is_faulty e = on (subst (RowFound l cut.used last (length kept) ends) e (row_found q f room h))
+      where
+        on : RowFound l cut.used last (length kept) ends Size.Bad → taken last (length kept) l ≡ record { rows = p.rows; used = cut.used; faulty = true }
+        on (is_bad_lem w) = gone_bad p.gone h w
 
-  pub count_fits : at < length l → length l < 2 ^ 64 → Fits w64 (n + 1)
+    pub take_bad : found ≡ Size.Bad → cut.records ≡ 0 → FrontSays l last kept d₀ None d
+    take_bad e z = rw (eq-eqb cut.records 0 z) at (front (is_faulty e))
+
+    pub take_later : found ≡ Size.Bad → (cut.records ≡ 0 → ⊥) → FrontSays l last kept d₀ (Some cut) d
+    take_later e z = rw (ne_eqb cut.records 0 z) at (front (is_faulty e))
+
+    pub take_more : found ≡ Size.More → FrontSays l last kept d₀ (Some cut) d
+    take_more e = on (subst (RowFound l cut.used last (length kept) ends) e (row_found q f room h))
+      where
+        on : RowFound l cut.used last (length kept) ends Size.More → FrontSays l last kept d₀ (Some cut) d
+        on (is_more w) = rw (and_false (eqb cut.records 0)) at (front (gone_more p.gone w))
+
+  pub count_fits : cut.used < length l → length l < 2 ^ 64 → Fits w64 (cut.records + 1)
   count_fits h g = record { fits = omega (arith, p.few) }
 
   -- A record is whole.
-  module _ {found₀ found : Size} {ends : List ℕ} {x : Extent} (h : at < length l) (q : RowSays l at last (length kept) ends₀ found₀ ends)
+  module _ {found₀ found : Size} {ends : List ℕ} {x : Extent} (h : cut.used < length l) (q : RowSays l cut.used last (length kept) ends₀ found₀ ends)
       (f : found ≡ fitted_size (length kept) found₀) (e : found ≡ Size.Whole x) where
-    fit : RowFits l at last (length kept) ends x
-    fit = on (subst (RowFound l at last (length kept) ends) e (row_found q f room h))
+    fit : RowFits l cut.used last (length kept) ends x
+    fit = on (subst (RowFound l cut.used last (length kept) ends) e (row_found q f room h))
       where
-        on : RowFound l at last (length kept) ends (Size.Whole x) → RowFits l at last (length kept) ends x
+        on : RowFound l cut.used last (length kept) ends (Size.Whole x) → RowFits l cut.used last (length kept) ends x
         on (is_whole w) = w
 
-    pub put_ready : PutReady l at ends (length kept) d to
+    pub put_ready : PutReady l cut.used ends (length kept) d cut.len
     put_ready = record {
       spacious = record { room = omega (arith, p.ready.spacious.room, p.size) };
       here = h;
       fits = p.fits.inside h;
-      spans = subst (FieldSpans l at ends) fit.all fit.row.spans;
+      spans = subst (FieldSpans l cut.used ends) fit.all fit.row.spans;
     }
 
-    pub place_fits : length l < 2 ^ 64 → Fits w64 (at + x.bytes)
+    pub place_fits : length l < 2 ^ 64 → Fits w64 (cut.used + x.bytes)
     place_fits g = record { fits = omega (arith, fit.row.within) }
 
     -- The next record stands further on.
-    pub take_less : length l - (at + x.bytes) < length l - at
+    pub take_less : length l - (cut.used + x.bytes) < length l - cut.used
     take_less = omega (arith, fit.row.some h)
 
     abbrev fs : List (List ℕ)
-    fs = fields_to l at ends (length kept)
+    fs = fields_to l cut.used ends (length kept)
 
-    pub take_on : {end : ℕ} {d' : List ℕ} → RowPut l at ends kept d to end d' → TakeAt l last kept d₀ d' ends (at + x.bytes) end (n + 1)
+    pub take_on : {end : ℕ} {d' : List ℕ} → RowPut l cut.used ends kept d cut.len end d' → TakeAt l last kept d₀ d' ends (record { used = cut.used + x.bytes; len = end; records = cut.records + 1 })
     take_on {end} {d'} w = record {
       ready = p.ready;
       rows = p.rows ++ fs ∷ [];
@@ -175,5 +158,5 @@ module _ {l : List ℕ} {last : Bool} {kept : List Bool} {d₀ d ends₀ : List 
       many = row_length q ∙ p.many;
     }
       where
-        start : start_at at ends x.fields ≡ start_at at ends (length kept)
-        start = ap (start_at at ends) fit.all
+        start : start_at cut.used ends x.fields ≡ start_at cut.used ends (length kept)
+        start = ap (start_at cut.used ends) fit.all

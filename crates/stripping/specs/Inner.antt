@@ -1,15 +1,15 @@
 -- What the inner functions need and give: the line of a record whose fields end at known places, and lines put into a buffer that has room for every one.
 -- Assumes nothing.
-use Rattle.std.specs.Prelude.{◌≡◌, Bool, true, false, cond, ◌&&◌, List, [], ◌∷◌, ◌++◌, ℕ, ◌+◌, ◌-◌, ◌≤◌, ◌<◌, ltb, eqb, length}
+use Rattle.std.specs.Prelude.{◌≡◌, Bool, cond, ◌&&◌, List, [], ◌∷◌, ◌++◌, ℕ, ◌+◌, ◌-◌, ◌≤◌, ◌<◌, ltb, eqb, length, Option, Some, None}
 use Rattle.laws.specs.Over.{over}
 use Rattle.scans.specs.Ascii.{comma, cr, lf}
 use Rattle.records.specs.Rows.{most_fields, line_end, start_at}
 use Rattle.records.specs.Inner.{FieldSpans, fields_to}
 use Rattle.records.specs.declared.Size.{Size}
 use Rattle.refusals.specs.Sizes.{most_text}
-use Rattle.exports.specs.Rows.{taken}
+use Rattle.exports.specs.Rows.{Taken, taken}
 use Rattle.exports.specs.Text.{record_line, record_lines}
-use Rattle.stripping.specs.declared.Front.{Front}
+use Rattle.stripping.specs.declared.Cut.{Cut}
 
 -- The buffer d' is d with x over what it had from the place `to` on, and had room for it.
 pub record Made (d : List ℕ) (to : ℕ) (x d' : List ℕ) : Type 0 where
@@ -74,19 +74,16 @@ pub record ShortReady (l : List ℕ) (kept : List Bool) : Type 0 where
   pub short : length l ≤ most_text
   pub narrow : length kept ≤ most_fields
 
--- What was taken from the front of l, and put from the front of the buffer on.
-pub record FrontSays (l : List ℕ) (last : Bool) (kept : List Bool) (d : List ℕ) (r : Front) (d' : List ℕ) : Type 0 where
-  pub used : r.cut.used ≡ (taken last (length kept) l).used
-  pub made : Made d 0 (record_lines kept (taken last (length kept) l).rows) d'
-  pub len : r.cut.len ≡ length (record_lines kept (taken last (length kept) l).rows)
-  pub records : r.cut.records ≡ length (taken last (length kept) l).rows
-  pub refused : r.refused ≡ (eqb (length (taken last (length kept) l).rows) 0 && (taken last (length kept) l).faulty)
+-- What was cut: None where the first record is bad.
+abbrev pub front_cut : List Bool → Taken → Option Cut
+front_cut kept t =
+    cond (eqb (length t.rows) 0 && t.faulty) None
+    (Some (record { used = t.used; len = length (record_lines kept t.rows); records = length t.rows }))
 
--- A record that is bad.
-abbrev pub is_bad : Size → Bool
-is_bad (Size.Whole x) = false
-is_bad Size.More = false
-is_bad Size.Bad = true
+-- What was taken from the front of l, and put from the front of the buffer on.
+pub record FrontSays (l : List ℕ) (last : Bool) (kept : List Bool) (d : List ℕ) (r : Option Cut) (d' : List ℕ) : Type 0 where
+  pub made : Made d 0 (record_lines kept (taken last (length kept) l).rows) d'
+  pub cut : r ≡ front_cut kept (taken last (length kept) l)
 
 -- A record by the number of columns: "a field count unlike the header's" is bad.
 abbrev pub fitted_size : ℕ → Size → Size

@@ -1,22 +1,23 @@
 -- The promise of `strip`: the whole records at the front of a text, with only the columns that are kept.
 -- Assumes nothing.
-use Rattle.std.specs.Prelude.{◌≡◌, Bool, cond, ◌&&◌, List, [], ◌∷◌, ℕ, ltb, eqb, length}
+use Rattle.std.specs.Prelude.{◌≡◌, Bool, cond, ◌&&◌, List, [], ◌∷◌, ℕ, ltb, eqb, length, Result, Ok, Err}
 use Rattle.laws.specs.Over.{over}
 use Rattle.records.specs.Rows.{most_fields}
 use Rattle.refusals.specs.Said.{Said, success, refused, refused_by, said_refusal}
 use Rattle.refusals.specs.Sizes.{most_text}
 use Rattle.refusals.specs.declared.Fault.{Fault}
+use Rattle.refusals.specs.declared.Refusal.{Refusal}
 use Rattle.exports.specs.Rows.{Taken, taken}
 use Rattle.exports.specs.Text.{record_lines}
-use Rattle.stripping.specs.declared.Stripped.{Stripped}
+use Rattle.stripping.specs.declared.Cut.{Cut}
 
 -- What an answer says: how many bytes were taken, how many were written, and of how many records; or a refusal.
 abbrev pub said_cut : ℕ → ℕ → ℕ → Said
 said_cut used len records = success 0 (used ∷ len ∷ records ∷ [])
 
-abbrev pub said_stripped : Stripped → Said
-said_stripped (Stripped.Text c) = said_cut c.used c.len c.records
-said_stripped (Stripped.Refused r) = said_refusal r
+abbrev pub said_stripped : Result Cut Refusal → Said
+said_stripped (Ok c) = said_cut c.used c.len c.records
+said_stripped (Err r) = said_refusal r
 
 -- Of what was taken, with a lent buffer of `room` bytes and n to be written: 16 at the record where the first one is bad, "NO_ROOM | 0 | a lent output is
 -- shorter than the answer", or what was cut.

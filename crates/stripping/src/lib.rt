@@ -3,9 +3,9 @@
 
 mod row;
 
-ghost use Rattle.std.specs.Prelude.{◌≡◌, ◌&&◌, eqb};
+ghost use Rattle.std.specs.Prelude.{◌≡◌};
 ghost use Rattle.stripping.specs.Stripping.{said_stripped, StripSays};
-ghost use Rattle.stripping.specs.Inner.{FrontSays, TakeReady, ShortReady, fitted_size, is_bad};
+ghost use Rattle.stripping.specs.Inner.{FrontSays, TakeReady, ShortReady, fitted_size};
 
 use puts::put;
 use records::{LINE_END, MOST_FIELDS, Size, read_row};
@@ -16,110 +16,87 @@ use row::put_row;
 const MOST_MADE: usize = MOST_TEXT + LINE_END;
 
 // What was cut from the front of a text: how many bytes of it were taken, how many were written, and of how many records.
-#[derive(Clone, Copy)]
+#[derive(Clone, Copy, Debug, PartialEq, Eq)]
 pub struct Cut {
     pub used: usize,
     pub len: usize,
     pub records: usize,
 }
 
-// What stripping answers: what was cut, or a refusal.
-#[derive(Clone, Copy)]
-pub enum Stripped {
-    Text(Cut),
-    Refused(Refusal),
-}
-
 // TooLong at 0 where the text has over 32,768 bytes; BadTable at 0 where there are over 256 columns; CsvSyntax at the record where the first one, which has
 // this number, is bad; NoRoom at 0 where `out` is shorter than what is written. Else the whole records at the front of the text, up to a bad one, with
 // only the columns that are kept. Nothing follows the text if it is the last one.
-pub fn strip(text: &[u8], last: bool, kept: &[bool], number: u64, out: &mut [u8]) -> Stripped
+pub fn strip(
+    text: &[u8],
+    last: bool,
+    kept: &[bool],
+    number: u64,
+    out: &mut [u8],
+) -> Result<Cut, Refusal>
     ensures { StripSays text.now last kept.now number out.old (said_stripped result) out.new }
 {
     if MOST_TEXT < text.len() {
-        return refused(Fault::TooLong, 0);
+        return Err(Fault::TooLong.at(0));
     }
     if MOST_FIELDS < kept.len() {
-        return refused(Fault::BadTable, 0);
+        return Err(Fault::BadTable.at(0));
     }
     if out.len() < text.len() + LINE_END {
         return strip_short(text, last, kept, number, out);
     }
-    let front = take(text, last, kept, out);
-    let cut = front.cut;
-    if front.refused {
-        refused(Fault::CsvSyntax, number)
-    } else {
-        Stripped::Text(cut)
-    }
-}
-
-// A refusal.
-fn refused(fault: Fault, place: u64) -> Stripped
-    ensures { result ≡ Stripped.Refused (record { fault = fault; place = place }) }
-{
-    Stripped::Refused(Refusal { fault, place })
+    take(text, last, kept, out).ok_or(Fault::CsvSyntax.at(number))
 }
 
 // The same where `out` may be shorter than what is written: that is made elsewhere first.
-fn strip_short(text: &[u8], last: bool, kept: &[bool], number: u64, out: &mut [u8]) -> Stripped
+fn strip_short(
+    text: &[u8],
+    last: bool,
+    kept: &[bool],
+    number: u64,
+    out: &mut [u8],
+) -> Result<Cut, Refusal>
     requires { ShortReady text.now kept.now }
     ensures { StripSays text.now last kept.now number out.old (said_stripped result) out.new }
 {
     let mut made = [0u8; MOST_MADE];
-    let front = take(text, last, kept, &mut made);
-    if front.refused {
-        return refused(Fault::CsvSyntax, number);
-    }
-    let cut = front.cut;
+    let Some(cut) = take(text, last, kept, &mut made) else {
+        return Err(Fault::CsvSyntax.at(number));
+    };
     let len = cut.len;
     if out.len() < len {
-        return refused(Fault::NoRoom, 0);
+        return Err(Fault::NoRoom.at(0));
     }
     put(&made[..len], out, 0);
-    Stripped::Text(cut)
+    Ok(cut)
 }
 
-// What was cut from the front of a text. It is refused where the first record is bad.
-#[derive(Clone, Copy)]
-struct Front {
-    cut: Cut,
-    refused: bool,
-}
-
-// Puts the lines of the whole records at the front of a text, up to a bad one.
-fn take(text: &[u8], last: bool, kept: &[bool], out: &mut [u8]) -> Front
+// Puts the lines of the whole records at the front of a text, up to a bad one. None where the first record is bad.
+// The loop stays: how far it goes on each time depends on the record that it reads.
+fn take(text: &[u8], last: bool, kept: &[bool], out: &mut [u8]) -> Option<Cut>
     requires { TakeReady text.now kept.now out.old }
     ensures { FrontSays text.now last kept.now out.old result out.new }
 {
     let mut ends = [0usize; MOST_FIELDS];
-    let mut at = 0;
-    let mut to = 0;
-    let mut n = 0;
-    while at < text.len() {
-        let size = fitted(read_row(text, at, last, kept.len(), &mut ends), kept.len());
-        let Size::Whole(row) = size else {
-            return Front {
-                cut: Cut {
-                    used: at,
-                    len: to,
-                    records: n,
-                },
-                refused: refuses(size, n),
-            };
-        };
-        to = put_row(text, at, &ends, kept, out, to);
-        at += row.bytes;
-        n += 1;
+    let mut cut = Cut {
+        used: 0,
+        len: 0,
+        records: 0,
+    };
+    while cut.used < text.len() {
+        match fitted(
+            read_row(text, cut.used, last, kept.len(), &mut ends),
+            kept.len(),
+        ) {
+            Size::Whole(row) => {
+                cut.len = put_row(text, cut.used, &ends, kept, out, cut.len);
+                cut.used += row.bytes;
+                cut.records += 1;
+            }
+            Size::Bad if cut.records == 0 => return None,
+            Size::Bad | Size::More => return Some(cut),
+        }
     }
-    Front {
-        cut: Cut {
-            used: at,
-            len: to,
-            records: n,
-        },
-        refused: false,
-    }
+    Some(cut)
 }
 
 // A record by the number of columns: one with another number of fields is bad.
@@ -127,26 +104,7 @@ fn fitted(found: Size, columns: usize) -> Size
     ensures { result ≡ fitted_size columns found }
 {
     match found {
-        Size::Whole(row) => if row.fields == columns {
-            Size::Whole(row)
-        } else {
-            Size::Bad
-        },
-        Size::More => Size::More,
-        Size::Bad => Size::Bad,
-    }
-}
-
-// Whether a record that is not whole is refused: it is bad, and none was taken before it.
-fn refuses(found: Size, records: usize) -> bool
-    ensures { result ≡ (eqb records 0 && is_bad found) }
-{
-    if records != 0 {
-        return false;
-    }
-    match found {
-        Size::Bad => true,
-        Size::More => false,
-        Size::Whole(_) => false,
+        Size::Whole(row) if row.fields != columns => Size::Bad,
+        _ => found,
     }
 }

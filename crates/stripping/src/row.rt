@@ -20,10 +20,8 @@ pub(crate) fn put_row(
     ensures { RowPut text.now at ends.now kept.now out.old to result out.new }
 {
     let mut n = to;
-    let mut c = 0;
-    while c < kept.len() {
-        n = keep(text, at, ends, c, kept[c], out, n);
-        c += 1;
+    for (c, is_kept) in kept.iter().enumerate() {
+        n = keep(text, at, ends, c, *is_kept, out, n);
     }
     end_line(out, to, n)
 }
@@ -44,7 +42,7 @@ fn keep(
     if !kept {
         return to;
     }
-    let comma = put(nth_field(text, at, ends, c), out, to);
+    let comma = put(nth_field(text, at, ends, c), out, to).unwrap();
     out[comma] = COMMA;
     comma + 1
 }
@@ -54,9 +52,6 @@ fn end_line(out: &mut [u8], to: usize, n: usize) -> usize
     requires { EndReady out.old to n }
     ensures { EndsLine out.old to n result out.new }
 {
-    if to < n {
-        put(&[CR, LF], out, n - 1)
-    } else {
-        put(&[CR, LF], out, n)
-    }
+    let at = if to < n { n - 1 } else { n };
+    put(&[CR, LF], out, at).unwrap()
 }

@@ -13,6 +13,7 @@ use lib.Dec.{ltb, eqb}
 use lib.ListN.{length, take, drop, replicate, get_or-append, length-append, length-drop}
 use lib.Seq.{length-take-le, get_or-take, take_at, drop_at, take-add, drop-cons, drop-drop, get_or-drop}
 use borrow.Author.Tests.{lt-ltb, le-ltb, eq-eqb, ne_eqb, ltb-false, eqb-true}
+use Rattle.std.specs.Prelude.{Option, Some, None}
 use Rattle.laws.proofs.Bools.{true_not_false}
 use Rattle.classes.specs.Class.{top_level, class_of, IsClass, lowest, highest}
 use Rattle.classes.specs.declared.Class.{Class}
@@ -25,9 +26,6 @@ use Rattle.tokens.specs.Numbers.{digit, value_of, digits_of, count_digits, decim
 use Rattle.tokens.specs.Tokens.{name_of_run, name_at, leading_zero, count_found, decimal_of_run, decimal_at, count_at, count_text, level_digits, mark_digits, behind_level, class_found, class_after, class_at, class_text}
 use Rattle.tokens.specs.declared.Number.{Number}
 use Rattle.tokens.specs.declared.ClassToken.{ClassToken}
-use Rattle.tokens.specs.declared.ReadName.{ReadName}
-use Rattle.tokens.specs.declared.ReadCount.{ReadCount}
-use Rattle.tokens.specs.declared.ReadClass.{ReadClass}
 use Rattle.tokens.proofs.Values.{DecimalLen, decimal, hex, digits_length, digits_run, value_digits, digits_value, value_fits, high_first, first_high, decimal_len_lem, decimal_has, decimal_short}
 
 -- Names. What a name's length says: the bytes are a name.
@@ -35,9 +33,9 @@ pub record NameHere (l : List ℕ) (n : ℕ) : Type 0 where
   pub within : n ≤ length l
   pub name : is_name (take n l) ≡ true
 
-abbrev pub NameSays : List ℕ → ReadName → Type 0
-NameSays l (ReadName.Found n) = NameHere l n
-NameSays l ReadName.Bad = Unit
+abbrev pub NameSays : List ℕ → Option ℕ → Type 0
+NameSays l (Some n) = NameHere l n
+NameSays l None = Unit
 
 pub name_says : (l : List ℕ) → NameSays l (name_at l)
 unfolding name_of_run
@@ -46,7 +44,7 @@ name_says l = says (ltb n 1) refl (ltb name_room n) refl
     n : ℕ
     n = run_len name_byte l
 
-    says : (a : Bool) → ltb n 1 ≡ a → (b : Bool) → ltb name_room n ≡ b → NameSays l (cond a ReadName.Bad (cond b ReadName.Bad (ReadName.Found n)))
+    says : (a : Bool) → ltb n 1 ≡ a → (b : Bool) → ltb name_room n ≡ b → NameSays l (cond a None (cond b None (Some n)))
     says true d b e = tt
     says false d true e = tt
     says false d false e = record {
@@ -64,11 +62,11 @@ name_says l = says (ltb n 1) refl (ltb name_room n) refl
         long = length-take-le n l (run_le name_byte l)
 
 -- What is read is a name.
-pub name_is_name : (l : List ℕ) (n : ℕ) → name_at l ≡ ReadName.Found n → NameHere l n
+pub name_is_name : (l : List ℕ) (n : ℕ) → name_at l ≡ Some n → NameHere l n
 name_is_name l n e = subst (NameSays l) e (name_says l)
 
 -- A name reads back where what follows it begins with no byte of a name.
-pub name_reads : (x rest : List ℕ) → is_name x ≡ true → run_len name_byte rest ≡ 0 → name_at (x ++ rest) ≡ ReadName.Found (length x)
+pub name_reads : (x rest : List ℕ) → is_name x ≡ true → run_len name_byte rest ≡ 0 → name_at (x ++ rest) ≡ Some (length x)
 unfolding name_of_run
 name_reads x rest e z =
     let s = name_spelled x e in
@@ -82,9 +80,9 @@ pub record DecimalHere (most : ℕ) (l : List ℕ) (x : Number) : Type 0 where
   pub digits : DecimalLen x.value x.len
   pub text : take x.len l ≡ decimal_of x.value
 
-abbrev pub DecimalSays : ℕ → List ℕ → ReadCount → Type 0
-DecimalSays most l (ReadCount.Found x) = DecimalHere most l x
-DecimalSays most l ReadCount.Bad = Unit
+abbrev pub DecimalSays : ℕ → List ℕ → Option Number → Type 0
+DecimalSays most l (Some x) = DecimalHere most l x
+DecimalSays most l None = Unit
 
 leading_zero_lem : (l : List ℕ) (n : ℕ) → leading_zero l n ≡ false → 1 < n → byte_at l ≡ digit0 → ⊥
 unfolding leading_zero
@@ -107,7 +105,7 @@ decimal_says most l m = says (ltb n 1) refl (ltb most n) refl (leading_zero l n)
     all = run_take decimal_byte l n (le_refl n) ∙ sym long
 
     says : (a : Bool) → ltb n 1 ≡ a → (b : Bool) → ltb most n ≡ b → (c : Bool) → leading_zero l n ≡ c
-        → DecimalSays most l (cond a ReadCount.Bad (cond b ReadCount.Bad (cond c ReadCount.Bad (count_found (value_of 10 x) n))))
+        → DecimalSays most l (cond a None (cond b None (cond c None (count_found (value_of 10 x) n))))
     says true d b e c f = tt
     says false d true e c f = tt
     says false d false e true f = tt
@@ -130,7 +128,7 @@ decimal_says most l m = says (ltb n 1) refl (ltb most n) refl (leading_zero l n)
         }
 
 -- What is read is what would be written.
-pub decimal_is_text : (most : ℕ) (l : List ℕ) (x : Number) → most ≤ count_digits → decimal_at most l ≡ ReadCount.Found x → DecimalHere most l x
+pub decimal_is_text : (most : ℕ) (l : List ℕ) (x : Number) → most ≤ count_digits → decimal_at most l ≡ Some x → DecimalHere most l x
 decimal_is_text most l x m e = subst (DecimalSays most l) e (decimal_says most l m)
 
 -- What is written reads back where what follows it begins with no digit.
@@ -169,7 +167,7 @@ decimal_reads most v rest h m z =
         )
 
 -- Counts.
-pub count_is_text : (l : List ℕ) (x : Number) → count_at l ≡ ReadCount.Found x → DecimalHere count_digits l x
+pub count_is_text : (l : List ℕ) (x : Number) → count_at l ≡ Some x → DecimalHere count_digits l x
 count_is_text l x e = decimal_is_text count_digits l x (omega arith) e
 
 pub count_reads : (v : ℕ) (rest : List ℕ) → v < 10 ^ count_digits → run_len decimal_byte rest ≡ 0
@@ -183,17 +181,17 @@ pub record ClassHere (l : List ℕ) (x : ClassToken) : Type 0 where
   pub class : IsClass x.class
   pub text : take x.len l ≡ class_text x.class
 
-abbrev pub ClassSays : List ℕ → ReadClass → Type 0
-ClassSays l (ReadClass.Found x) = ClassHere l x
-ClassSays l ReadClass.Bad = Unit
+abbrev pub ClassSays : List ℕ → Option ClassToken → Type 0
+ClassSays l (Some x) = ClassHere l x
+ClassSays l None = Unit
 
 pub class_says : (l : List ℕ) → ClassSays l (class_at l)
 unfolding class_after
 class_says l = after (decimal_at level_digits l) (decimal_says level_digits l (omega arith))
   where
-    after : (r : ReadCount) → DecimalSays level_digits l r → ClassSays l (class_after l r)
-    after ReadCount.Bad d = tt
-    after (ReadCount.Found x) d =
+    after : (r : Option Number) → DecimalSays level_digits l r → ClassSays l (class_after l r)
+    after None d = tt
+    after (Some x) d =
         says (ltb top_level x.value) refl (eqb (byte_at (drop x.len l)) slash) refl (eqb (run_len hex_byte rest) mark_digits) refl
       where
         rest : List ℕ
@@ -205,8 +203,8 @@ class_says l = after (decimal_at level_digits l) (decimal_says level_digits l (o
         says : (a : Bool) → ltb top_level x.value ≡ a → (b : Bool) → eqb (byte_at (drop x.len l)) slash ≡ b
             → (c : Bool) → eqb (run_len hex_byte rest) mark_digits ≡ c
             → ClassSays l
-            (cond a ReadClass.Bad
-            (cond b (cond c (class_found (class_of x.value (value_of 16 marks)) (x.len + behind_level)) ReadClass.Bad) ReadClass.Bad))
+            (cond a None
+            (cond b (cond c (class_found (class_of x.value (value_of 16 marks)) (x.len + behind_level)) None) None))
         says true e b f c g = tt
         says false e false f c g = tt
         says false e true f false g = tt
@@ -237,7 +235,7 @@ class_says l = after (decimal_at level_digits l) (decimal_says level_digits l (o
             digits = rw long at (digits_value hex marks all)
 
 -- What is read is what would be written.
-pub class_is_text : (l : List ℕ) (x : ClassToken) → class_at l ≡ ReadClass.Found x → ClassHere l x
+pub class_is_text : (l : List ℕ) (x : ClassToken) → class_at l ≡ Some x → ClassHere l x
 class_is_text l x e = subst (ClassSays l) e (class_says l)
 
 pub class_length : (c : Class) → length (class_text c) ≡ decimal_len c.level + behind_level

@@ -1,6 +1,7 @@
-// The tokens at a place of a text: names, counts and classes, each with its length, or Bad.
+// The tokens at a place of a text: names, counts and classes, each with its length, or None.
 //
-// Every function takes any place. Past a text's end there is nothing, so that no token stands there.
+// Every function takes any place. Past a text's end there is nothing, so that no token stands there. A text and a place stay
+// two parameters, as in `scans`.
 #![tactic(auto)]
 
 mod numbers;
@@ -29,111 +30,74 @@ pub const BEHIND_LEVEL: usize = 1 + MARK_DIGITS;
 // What the byte of a letter a-f is more than its worth, as `DIGIT_0` is for a digit 0-9: a is worth 10.
 pub const LETTER_0: u64 = b'a' as u64 - 10;
 
-// A name's length.
-#[derive(Clone, Copy)]
-pub enum ReadName {
-    Found(usize),
-    Bad,
-}
-
 // A number that stands in a text, and its length there.
-#[derive(Clone, Copy)]
+#[derive(Clone, Copy, Debug, PartialEq, Eq)]
 pub struct Number {
     pub value: u64,
     pub len: usize,
 }
 
-#[derive(Clone, Copy)]
-pub enum ReadCount {
-    Found(Number),
-    Bad,
-}
-
 // A class that stands in a text, and its length there.
-#[derive(Clone, Copy)]
+#[derive(Clone, Copy, Debug, PartialEq, Eq)]
 pub struct ClassToken {
     pub class: Class,
     pub len: usize,
 }
 
-#[derive(Clone, Copy)]
-pub enum ReadClass {
-    Found(ClassToken),
-    Bad,
-}
-
-// The name at a place. Bad where the run of a-z, 0-9 and hyphen there is not of 1 to 16 bytes; else the length of the run.
-pub fn read_name(s: &[u8], at: usize) -> ReadName
+// The name at a place, by its length. None where the run of a-z, 0-9 and hyphen there is not of 1 to 16 bytes; else the length of the run.
+#[tactic(auto, unfolding(crate::specs::Tokens::name_of_run))]
+pub fn read_name(s: &[u8], at: usize) -> Option<usize>
     ensures { result ≡ name_at (drop at s.now) }
 {
     let n = run(Kind::Name, s, at);
-    if n < 1 {
-        return ReadName::Bad;
-    }
-    if NAME_ROOM < n {
-        return ReadName::Bad;
-    }
-    ReadName::Found(n)
+    (1..=NAME_ROOM).contains(&n).then_some(n)
 }
 
-// The count at a place. Bad where the run of digits there is not of 1 to 5, or has a leading zero; else the value and the length of the run.
-pub fn read_count(s: &[u8], at: usize) -> ReadCount
+// The count at a place. None where the run of digits there is not of 1 to 5, or has a leading zero; else the value and the length of the run.
+pub fn read_count(s: &[u8], at: usize) -> Option<Number>
     ensures { result ≡ count_at (drop at s.now) }
 {
     decimal(COUNT_DIGITS, s, at)
 }
 
-// The class at a place. Bad where there is no level 0 to 15 with no leading zero, no slash behind it, or no run of exactly 16 lower-case hex
+// The class at a place. None where there is no level 0 to 15 with no leading zero, no slash behind it, or no run of exactly 16 lower-case hex
 // digits behind that; else the class and its length.
-pub fn read_class(s: &[u8], at: usize) -> ReadClass
+#[tactic(auto, using(crate::proofs::Answers::level_ends), unfolding(crate::specs::Tokens::class_after))]
+pub fn read_class(s: &[u8], at: usize) -> Option<ClassToken>
     ensures { result ≡ class_at (drop at s.now) }
 {
-    let ReadCount::Found(level) = decimal(LEVEL_DIGITS, s, at) else {
-        return ReadClass::Bad;
-    };
-    if TOP_LEVEL < level.value {
-        return ReadClass::Bad;
-    }
+    let level = decimal(LEVEL_DIGITS, s, at)?;
     let slash = at + level.len;
-    if byte_at(s, slash) != SLASH {
-        return ReadClass::Bad;
+    if TOP_LEVEL < level.value || byte_at(s, slash) != SLASH {
+        return None;
     }
     let marks = slash + 1;
     if run(Kind::Hex, s, marks) != MARK_DIGITS {
-        return ReadClass::Bad;
+        return None;
     }
     let class = Class::new(level.value, value(16, s, marks, MARK_DIGITS));
     let len = level.len + BEHIND_LEVEL;
-    ReadClass::Found(ClassToken { class, len })
+    Some(ClassToken { class, len })
 }
 
-// The number at a place. Bad where the run of digits there is not of 1 to `most`, or has a leading zero.
-fn decimal(most: usize, s: &[u8], at: usize) -> ReadCount
+// The number at a place. None where the run of digits there is not of 1 to `most`, or has a leading zero.
+#[tactic(auto, unfolding(crate::specs::Tokens::decimal_of_run))]
+fn decimal(most: usize, s: &[u8], at: usize) -> Option<Number>
     requires { most ≤ count_digits }
     ensures { result ≡ decimal_at most (drop at s.now) }
 {
     let n = run(Kind::Decimal, s, at);
-    if n < 1 {
-        return ReadCount::Bad;
+    if n < 1 || most < n || leading_zero(s, at, n) {
+        return None;
     }
-    if most < n {
-        return ReadCount::Bad;
-    }
-    if leading_zero(s, at, n) {
-        return ReadCount::Bad;
-    }
-    ReadCount::Found(Number {
-        value: value(10, s, at, n),
-        len: n,
-    })
+    let value = value(10, s, at, n);
+    Some(Number { value, len: n })
 }
 
 // Whether of n digits at a place, more than one, the first is 0.
+#[tactic(auto, unfolding(crate::specs::Tokens::leading_zero))]
 fn leading_zero(s: &[u8], at: usize, n: usize) -> bool
     ensures { result ≡ leading_zero (drop at s.now) n }
 {
-    if n <= 1 {
-        return false;
-    }
-    byte_at(s, at) == DIGIT_0
+    1 < n && byte_at(s, at) == DIGIT_0
 }

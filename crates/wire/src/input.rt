@@ -1,29 +1,24 @@
 // What a call is made of, read from standard input: words, each a line of sixteen hex digits.
-ghost use Rattle.std.specs.Prelude.{◌≤◌, IfOk};
+ghost use Rattle.std.specs.Prelude.{◌≡◌, ◌≤◌, length, true, false, IfOk, IsNone};
+ghost use Rattle.std.specs.Io.KnownBytes.{IsAtEnd};
 
+use crate::elements::Element;
 use fills::fill;
 use puts::put;
+use rules::Head;
 use scans::{LF, byte_at};
 use std::io;
 use std::io::Read;
-use tokens::{ReadClass, read_class};
+use tokens::read_class;
 
 // The bytes of a line.
-const LINE: usize = 17;
+pub(crate) const LINE: usize = 17;
 
 // What the text of a class has in front of its sixteen digits.
 pub(crate) const LEVEL: usize = 2;
 
-// One word: its value, whether its line has the form, and whether the input had ended before it.
-#[derive(Clone, Copy)]
-pub struct Word {
-    pub value: u64,
-    pub good: bool,
-    pub ended: bool,
-}
-
-// The six numbers of a call, and whether they have the form.
-#[derive(Clone, Copy)]
+// The six numbers of a call.
+#[derive(Clone, Copy, Debug, PartialEq, Eq)]
 pub struct Numbers {
     pub a: u64,
     pub b: u64,
@@ -31,135 +26,102 @@ pub struct Numbers {
     pub d: u64,
     pub e: u64,
     pub f: u64,
+}
+
+impl Numbers {
+    // The first two, as a head: of how many items, and of how many rules.
+    pub fn head(self) -> Head
+        ensures items { result.items ≡ self.a }
+        ensures rules { result.rules ≡ self.b }
+    {
+        Head {
+            items: self.a as usize,
+            rules: self.b as usize,
+        }
+    }
+}
+
+// Reads calls, and keeps in mind whether all that was read has the form. A flag and no Result of each word, since the program reads a call to its end before it
+// prints `bad call`, and a read that fails there comes first: what has not the form stands for some value till then.
+#[derive(Drop)]
+pub struct Calls<R> {
+    pub input: R,
     pub good: bool,
 }
 
-// How many elements of a buffer a call lends, and whether they were given in the form.
-#[derive(Clone, Copy)]
-pub struct Lent {
-    pub room: usize,
-    pub good: bool,
-}
-
-// How many elements of a buffer a call lends and how many of these it gives, and whether that may be.
-#[derive(Clone, Copy)]
-struct Sizes {
-    room: usize,
-    count: usize,
-    good: bool,
-}
-
-// The next word. Its digits are read as the marks of a class.
-pub fn word_in<R: Read>(input: &mut R) -> io::Result<Word> {
-    let mut line = [0u8; LINE];
-    let n = fill(input, &mut line)?;
-    let ended = n == 0;
-    let mut class = [0u8; LEVEL + LINE];
-    put(b"0/", &mut class, 0);
-    put(&line[..n], &mut class, LEVEL);
-    Ok(match read_class(&class, 0) {
-        ReadClass::Found(token) => Word {
-            value: token.class.marks,
-            good: byte_at(&class, token.len) == LF,
-            ended,
-        },
-        ReadClass::Bad => Word {
-            value: 0,
-            good: false,
-            ended,
-        },
-    })
-}
-
-// The numbers of a call.
-pub fn numbers_in<R: Read>(input: &mut R) -> io::Result<Numbers> {
-    let a = word_in(input)?;
-    let b = word_in(input)?;
-    let c = word_in(input)?;
-    let d = word_in(input)?;
-    let e = word_in(input)?;
-    let f = word_in(input)?;
-    Ok(Numbers {
-        a: a.value,
-        b: b.value,
-        c: c.value,
-        d: d.value,
-        e: e.value,
-        f: f.value,
-        good: a.good & b.good & c.good & d.good & e.good & f.good,
-    })
-}
-
-// The sizes of a buffer that has at most so many elements. None where they may not be.
-fn sizes_in<R: Read>(input: &mut R, most: usize) -> io::Result<Sizes>
-    ensures { IfOk result (λ s. s.count ≤ most) }
-{
-    let room = word_in(input)?;
-    let count = word_in(input)?;
-    if (most as u64) < room.value {
-        return Ok(no_sizes());
+impl<R: Read> Calls<R> {
+    // The calls of an input.
+    pub fn new(input: R) -> Calls<R>
+        ensures { result.good ≡ true }
+    {
+        Calls { input, good: true }
     }
-    if room.value < count.value {
-        return Ok(no_sizes());
-    }
-    Ok(Sizes {
-        room: room.value as usize,
-        count: count.value as usize,
-        good: room.good & count.good,
-    })
-}
 
-fn no_sizes() -> Sizes
-    ensures { result.count ≤ 0 }
-{
-    Sizes {
-        room: 0,
-        count: 0,
-        good: false,
+    // The next word, unless the input has ended. Its digits are read as the marks of a class.
+    pub fn next_word(&mut self) -> io::Result<Option<u64>>
+        ensures end { IfOk result (λ w. IsNone w → IsAtEnd (R.remaining self.new.input)) }
+        ensures bad { self.old.good ≡ false → self.new.good ≡ false }
+    {
+        let mut line = [0u8; LINE];
+        let n = fill(&mut self.input, &mut line)?;
+        if n == 0 {
+            return Ok(None);
+        }
+        let mut class = [0u8; LEVEL + LINE];
+        put(b"0/", &mut class, 0);
+        put(&line[..n], &mut class, LEVEL);
+        Ok(Some(match read_class(&class, 0) {
+            Some(token) => {
+                self.good &= byte_at(&class, token.len) == LF;
+                token.class.marks
+            }
+            None => {
+                self.good = false;
+                0
+            }
+        }))
     }
-}
 
-// The bytes of a buffer.
-pub fn bytes_in<R: Read>(input: &mut R, buf: &mut [u8]) -> io::Result<Lent> {
-    let sizes = sizes_in(input, buf.len())?;
-    let mut good = sizes.good;
-    let mut i = 0;
-    while i < sizes.count {
-        let word = word_in(input)?;
-        buf[i] = (word.value % 256) as u8;
-        good = good & word.good & (word.value < 256);
-        i += 1;
+    // The next word of a call. It has not the form where the input has ended.
+    fn word(&mut self) -> io::Result<u64>
+        ensures bad { self.old.good ≡ false → self.new.good ≡ false }
+    {
+        let word = self.next_word()?;
+        self.good &= word.is_some();
+        Ok(word.unwrap_or(0))
     }
-    let room = sizes.room;
-    Ok(Lent { room, good })
-}
 
-// The words of a buffer.
-pub fn words_in<R: Read>(input: &mut R, buf: &mut [u64]) -> io::Result<Lent> {
-    let sizes = sizes_in(input, buf.len())?;
-    let mut good = sizes.good;
-    let mut i = 0;
-    while i < sizes.count {
-        let word = word_in(input)?;
-        buf[i] = word.value;
-        good = good & word.good;
-        i += 1;
+    // The numbers of a call.
+    pub fn numbers(&mut self) -> io::Result<Numbers>
+        ensures bad { self.old.good ≡ false → self.new.good ≡ false }
+    {
+        Ok(Numbers {
+            a: self.word()?,
+            b: self.word()?,
+            c: self.word()?,
+            d: self.word()?,
+            e: self.word()?,
+            f: self.word()?,
+        })
     }
-    let room = sizes.room;
-    Ok(Lent { room, good })
-}
 
-// The bools of a buffer.
-pub fn bools_in<R: Read>(input: &mut R, buf: &mut [bool]) -> io::Result<Lent> {
-    let sizes = sizes_in(input, buf.len())?;
-    let mut good = sizes.good;
-    let mut i = 0;
-    while i < sizes.count {
-        let word = word_in(input)?;
-        buf[i] = word.value != 0;
-        good = good & word.good;
-        i += 1;
+    // Reads the elements of a buffer that a call lends, and answers the front of the buffer that is lent. None is where the sizes may not be.
+    pub fn lent<'b, T: Element>(&mut self, buf: &'b mut [T]) -> io::Result<&'b mut [T]>
+        ensures within { IfOk result (λ front. length front.now ≤ length buf.old) }
+        ensures bad { self.old.good ≡ false → self.new.good ≡ false }
+    {
+        let room = self.word()?;
+        let count = self.word()?;
+        if room > buf.len() as u64 || count > room {
+            self.good = false;
+            return Ok(&mut buf[..0]);
+        }
+        for slot in &mut buf[..count as usize] {
+            match T::from_word(self.word()?) {
+                Some(element) => *slot = element,
+                None => self.good = false,
+            }
+        }
+        Ok(&mut buf[..room as usize])
     }
-    let room = sizes.room;
-    Ok(Lent { room, good })
 }

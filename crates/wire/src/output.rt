@@ -1,104 +1,66 @@
 // Words of standard output: each is a line of sixteen hex digits.
-use crate::answer::Answer;
-use crate::input::LEVEL;
+ghost use Rattle.std.specs.Prelude.{◌≤◌, length};
+
+use crate::elements::Element;
+use crate::input::{LEVEL, LINE};
 use classes::Class;
 use puts::{put, put_class};
 use scans::LF;
 use std::io;
 use std::io::Print;
 
-// The bytes of a line.
-const LINE: usize = 17;
-
 // The bytes that are written at once: whole lines.
 const CHUNK: usize = LINE * 240;
 
-// Puts the line of a word at a place of a chunk, which is written first where it is full. Answers the place behind the line. Its digits are put as the marks of
-// a class.
-fn line<P: Print>(out: &P, word: u64, chunk: &mut [u8; CHUNK], at: usize) -> io::Result<usize> {
-    let mut class = [LF; LEVEL + LINE];
-    put_class(Class::new(0, word), &mut class, 0);
-    let text = &class[LEVEL..];
-    if at <= CHUNK - LINE {
-        put(text, chunk, at);
-        return Ok(at + LINE);
+// Lines that are still to be written, before a place of a chunk.
+#[derive(Drop)]
+struct Lines<'a, P> {
+    out: &'a P,
+    chunk: [u8; CHUNK],
+    at: usize,
+    ghost within: { at ≤ length chunk },
+}
+
+impl<'a, P: Print> Lines<'a, P> {
+    fn new(out: &'a P) -> Lines<'a, P> {
+        let chunk = [0u8; CHUNK];
+        Lines { out, chunk, at: 0 }
     }
-    out.write_all(chunk)?;
-    put(text, chunk, 0);
-    Ok(LINE)
-}
 
-// Writes what stands in a chunk before a place.
-fn flush<P: Print>(out: &P, chunk: &[u8; CHUNK], at: usize) -> io::Result<()> {
-    out.write_all(first_bytes(chunk, at))
-}
-
-// So many bytes from the front, or all where there are fewer.
-fn first_bytes(bytes: &[u8], n: usize) -> &[u8] {
-    if bytes.len() < n {
-        return bytes;
+    // Puts the line of a word into the chunk, which is written first where it is full. Its digits are put as the marks of a class.
+    fn push(&mut self, word: u64) -> io::Result<()> {
+        let mut class = [LF; LEVEL + LINE];
+        put_class(Class::new(0, word), &mut class, 0);
+        if self.at > CHUNK - LINE {
+            self.out.write_all(&self.chunk)?;
+            self.at = 0;
+        }
+        put(&class[LEVEL..], &mut self.chunk, self.at);
+        self.at += LINE;
+        Ok(())
     }
-    &bytes[0..n]
-}
 
-fn first_words(words: &[u64], n: usize) -> &[u64] {
-    if words.len() < n {
-        return words;
+    // Writes what stands in the chunk.
+    fn flush(&self) -> io::Result<()> {
+        self.out.write_all(&self.chunk[..self.at])
     }
-    &words[0..n]
 }
 
-// The refusal's number, its place or which success it is, and the values, their number first.
-pub fn answer_out<P: Print>(out: &P, answer: Answer) -> io::Result<()> {
-    let mut chunk = [0u8; CHUNK];
-    let at = line(out, answer.refusal, &mut chunk, 0)?;
-    let end = line(out, answer.which, &mut chunk, at)?;
-    flush(out, &chunk, end)?;
-    let values = answer.values;
-    words_out(out, first_words(&values, answer.count))
-}
-
-// A buffer of bytes: its room, and each of them.
-pub fn bytes_out<P: Print>(out: &P, bytes: &[u8]) -> io::Result<()> {
-    let mut chunk = [0u8; CHUNK];
-    let mut at = line(out, bytes.len() as u64, &mut chunk, 0)?;
-    let mut i = 0;
-    while i < bytes.len() {
-        at = line(out, wide(bytes[i]), &mut chunk, at)?;
-        i += 1;
-    }
-    flush(out, &chunk, at)
-}
-
-// A buffer of words.
+// Words.
 pub fn words_out<P: Print>(out: &P, words: &[u64]) -> io::Result<()> {
-    let mut chunk = [0u8; CHUNK];
-    let mut at = line(out, words.len() as u64, &mut chunk, 0)?;
-    let mut i = 0;
-    while i < words.len() {
-        at = line(out, words[i], &mut chunk, at)?;
-        i += 1;
+    let mut lines = Lines::new(out);
+    for word in words {
+        lines.push(*word)?;
     }
-    flush(out, &chunk, at)
+    lines.flush()
 }
 
-// A buffer of bools, 1 for yes.
-pub fn bools_out<P: Print>(out: &P, bools: &[bool]) -> io::Result<()> {
-    let mut chunk = [0u8; CHUNK];
-    let mut at = line(out, bools.len() as u64, &mut chunk, 0)?;
-    let mut i = 0;
-    while i < bools.len() {
-        at = line(out, bit(bools[i]), &mut chunk, at)?;
-        i += 1;
+// A buffer: its room, and each element.
+pub fn buffer_out<P: Print, T: Element>(out: &P, buffer: &[T]) -> io::Result<()> {
+    let mut lines = Lines::new(out);
+    lines.push(buffer.len() as u64)?;
+    for element in buffer {
+        lines.push(element.to_word())?;
     }
-    flush(out, &chunk, at)
-}
-
-fn wide(b: u8) -> u64 {
-    b as u64
-}
-
-// 1 for yes.
-pub fn bit(b: bool) -> u64 {
-    if b { 1 } else { 0 }
+    lines.flush()
 }

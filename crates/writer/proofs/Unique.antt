@@ -5,25 +5,26 @@ use mathlib.Core.List.{List}
 use Prim.Native.Nat.{ℕ}
 use native.Mathlib.Omega.{arith}
 use lib.ListN.{get_or}
+use Rattle.std.specs.Prelude.{Result, Ok, Err}
+use Rattle.refusals.specs.declared.Refusal.{Refusal}
 use Rattle.laws.proofs.First.{first_not_all, first_unique}
 use Rattle.refusals.specs.Said.{Said, success, refused, refused_by}
 use Rattle.refusals.specs.declared.Fault.{Fault}
 use Rattle.refusals.proofs.Said.{said_injective, refusal_of, refusal_back}
 use Rattle.rules.specs.declared.Head.{Head}
-use Rattle.writer.specs.declared.Written.{Written}
 use Rattle.writer.specs.Writing.{said_written, WriteSays, bad_table, too_long, no_room, written}
 use Rattle.writer.specs.Writing.{LabelsSays, bad_items, few_labels, bad_label, short_buffer, labelled}
 
 -- An answer is known by what it says.
-abbrev written_of : Said → Written
-written_of (success c l) = Written.Text (get_or l 0 0)
-written_of (refused n p) = Written.Refused (refusal_of n p)
+abbrev written_of : Said → Result ℕ Refusal
+written_of (success c l) = Ok (get_or l 0 0)
+written_of (refused n p) = Err (refusal_of n p)
 
-written_back : (x : Written) → written_of (said_written x) ≡ x
-written_back (Written.Text len) = refl
-written_back (Written.Refused r) = ap Written.Refused (refusal_back r)
+written_back : (x : Result ℕ Refusal) → written_of (said_written x) ≡ x
+written_back (Ok len) = refl
+written_back (Err r) = ap Err (refusal_back r)
 
-pub written_told : {a b : Written} → said_written a ≡ said_written b → a ≡ b
+pub written_told : {a b : Result ℕ Refusal} → said_written a ≡ said_written b → a ≡ b
 written_told = said_injective said_written written_of written_back
 
 -- Two results, what was answered and a buffer each, that are the same.
@@ -34,7 +35,7 @@ pub record Same {A : Type 0} (a b : A) (d e : List ℕ) : Type 0 where
 same : {a : Said} {d : List ℕ} → Same a a d d
 same = record { answer = refl; buffer = refl }
 
-answers_same : {a b : Written} {d e : List ℕ} → Same (said_written a) (said_written b) d e → Same a b d e
+answers_same : {a b : Result ℕ Refusal} {d e : List ℕ} → Same (said_written a) (said_written b) d e → Same a b d e
 answers_same s = record { answer = written_told s.answer; buffer = s.buffer }
 
 -- Writing a rulebook has one result.
@@ -56,7 +57,7 @@ write_says_unique (written x l r) (too_long y k) = absurd (omega arith)
 write_says_unique (written x l r) (no_room y k s) = absurd (omega arith)
 write_says_unique (written x l r) (written y k s) = same
 
-pub write_unique : {h : Head} {t w out : List ℕ} {a b : Written} {d e : List ℕ} → WriteSays h t w out (said_written a) d
+pub write_unique : {h : Head} {t w out : List ℕ} {a b : Result ℕ Refusal} {d e : List ℕ} → WriteSays h t w out (said_written a) d
     → WriteSays h t w out (said_written b) e → Same a b d e
 write_unique p q = answers_same (write_says_unique p q)
 
@@ -89,6 +90,6 @@ labels_say_unique (labelled x r) (bad_label y s f) = absurd (first_not_all f x.r
 labels_say_unique (labelled x r) (short_buffer y s) = absurd (omega arith)
 labels_say_unique (labelled x r) (labelled y s) = same
 
-pub labels_unique : {t : List ℕ} {n : ℕ} {levels marks out : List ℕ} {a b : Written} {d e : List ℕ} → LabelsSays t n levels marks out (said_written a) d
+pub labels_unique : {t : List ℕ} {n : ℕ} {levels marks out : List ℕ} {a b : Result ℕ Refusal} {d e : List ℕ} → LabelsSays t n levels marks out (said_written a) d
     → LabelsSays t n levels marks out (said_written b) e → Same a b d e
 labels_unique p q = answers_same (labels_say_unique p q)

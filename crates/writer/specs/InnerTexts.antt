@@ -1,16 +1,12 @@
 -- What the functions within `writer` speak of: the names of a rule, the text of a labelling as it is made, and a text that is copied to the lent buffer.
 -- Assumes nothing.
-use Rattle.std.specs.Prelude.{◌≡◌, List, [], ◌∷◌, ℕ, ◌≤◌, ◌<◌, length}
+use Rattle.std.specs.Prelude.{List, [], ◌∷◌, ℕ, ◌≤◌, ◌<◌, length}
 use Rattle.laws.specs.Over.{over}
-use Rattle.puts.specs.InnerGrowing.{Front}
-use Rattle.refusals.specs.Sizes.{most_text}
 use Rattle.refusals.specs.Said.{Said, success, refused_by}
 use Rattle.refusals.specs.declared.Fault.{Fault}
 use Rattle.items.specs.Table.{ItemsOk}
 use Rattle.rules.specs.declared.Rule.{Rule}
 use Rattle.accepts.specs.Accepted.{RuleAccepted}
-use Rattle.writer.specs.Texts.{labels_text}
-use Rattle.writer.specs.Writing.{Labels}
 
 -- Each item that the rule names has a name in the table t.
 pub record Named (t : List ℕ) (x : Rule) : Type 0 where
@@ -22,15 +18,6 @@ pub record Named (t : List ℕ) (x : Rule) : Type 0 where
 pub record NamedAt (t : List ℕ) (x : Rule) (k : ℕ) : Type 0 where
   pub rule : Named t x
   pub below : k < x.count
-
--- Labels whose text is to be made in the buffer d, which has room for the longest text; and that text at the front of it, with r bytes.
-pub record LabelsReady (t : List ℕ) (n : ℕ) (levels marks d : List ℕ) : Type 0 where
-  pub labels : Labels t n levels marks
-  pub size : length d ≡ most_text
-
-pub record LabelsMade (t : List ℕ) (n : ℕ) (levels marks d : List ℕ) (r : ℕ) : Type 0 where
-  pub labels : Labels t n levels marks
-  pub front : Front (labels_text t n levels marks) d r
 
 -- A text x that is not too long, for a buffer that held `out`: it is at the front of it, or has no room.
 pub data CopySays (x out : List ℕ) : Said → List ℕ → Type 0 where

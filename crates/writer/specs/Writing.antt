@@ -1,6 +1,7 @@
 -- What writing a rulebook and writing a labelling answer, and what is then in the lent buffer.
 -- Assumes nothing.
-use Rattle.std.specs.Prelude.{List, [], ◌∷◌, ℕ, ◌≤◌, ◌<◌, length}
+use Rattle.std.specs.Prelude.{List, [], ◌∷◌, ℕ, ◌≤◌, ◌<◌, length, Result, Ok, Err}
+use Rattle.refusals.specs.declared.Refusal.{Refusal}
 use Rattle.laws.specs.First.{AllBelow, FirstFailing}
 use Rattle.laws.specs.Over.{over}
 use Rattle.refusals.specs.Said.{Said, success, refused_by, said_refusal}
@@ -10,13 +11,12 @@ use Rattle.items.specs.Table.{ItemsOk}
 use Rattle.labels.specs.Labels.{LevelInRange, Room}
 use Rattle.rules.specs.declared.Head.{Head}
 use Rattle.accepts.specs.Tables.{Tables}
-use Rattle.writer.specs.declared.Written.{Written}
 use Rattle.writer.specs.Texts.{book_text, labels_text}
 
 -- What an answer says: the length of the text, or a refusal.
-abbrev pub said_written : Written → Said
-said_written (Written.Text len) = success 0 (len ∷ [])
-said_written (Written.Refused r) = said_refusal r
+abbrev pub said_written : Result ℕ Refusal → Said
+said_written (Ok len) = success 0 (len ∷ [])
+said_written (Err r) = said_refusal r
 
 -- "Writing: 10, 1, 11". The buffer held `out`, and holds what the second index says.
 module _ (h : Head) (t w out : List ℕ) where

@@ -1,5 +1,6 @@
 -- Wrong answers of `items`.
 -- Assumes nothing.
+use Rattle.std.specs.Prelude.{Some, None, Ok}
 use mathlib.Core.Path.{◌≡◌, refl}
 use mathlib.Core.Bool.{true, false, true≢false}
 use mathlib.Core.List.{List, [], ◌∷◌}
@@ -15,7 +16,6 @@ use Rattle.refusals.specs.Said.{success, refused}
 use Rattle.items.specs.Names.{name_bytes, is_name}
 use Rattle.items.specs.Table.{table_fits, entry_byte, name_len, NameAt, ItemsOk}
 use Rattle.items.specs.Lookup.{said_found, same_name, look_up, find_in, FindSays}
-use Rattle.items.specs.declared.Found.{Found}
 
 -- The item "a", an item of sixteen bytes a, and one without a name.
 abbrev only_a : List ℕ
@@ -28,25 +28,25 @@ abbrev nameless : List ℕ
 nameless = replicate 16 0
 
 -- Looked up is "b".
-pub find_answers_the_count : FindSays only_a 1 (98 ∷ []) (said_found (Found.At 1)) → ⊥
+pub find_answers_the_count : FindSays only_a 1 (98 ∷ []) (said_found (Ok (Some 1))) → ⊥
 unfolding find_in look_up same_name table_fits is_name name_bytes name_byte every_below first_below entry_byte
 find_answers_the_count x = let e : success 0 (1 ∷ []) ≡ success 1 [] = x.answer in let z : ◌≡◌ {A = ℕ} 0 1 = cc in omega arith
 
-pub find_is_absent_of_an_item : FindSays only_a 1 (97 ∷ []) (said_found Found.Absent) → ⊥
+pub find_is_absent_of_an_item : FindSays only_a 1 (97 ∷ []) (said_found (Ok None)) → ⊥
 unfolding find_in look_up same_name table_fits is_name name_bytes name_byte every_below first_below entry_byte
 find_is_absent_of_an_item x = let e : success 1 [] ≡ success 0 (0 ∷ []) = x.answer in let z : ◌≡◌ {A = ℕ} 0 1 = cc in omega arith
 
 -- Seventeen bytes a, of which a table has room for sixteen.
-pub find_answers_at_of_a_name_of_17_bytes : FindSays longest 1 (replicate 17 97) (said_found (Found.At 0)) → ⊥
+pub find_answers_at_of_a_name_of_17_bytes : FindSays longest 1 (replicate 17 97) (said_found (Ok (Some 0))) → ⊥
 unfolding find_in table_fits is_name name_bytes name_byte
 find_answers_at_of_a_name_of_17_bytes x = let e : success 0 (0 ∷ []) ≡ success 1 [] = x.answer in let z : ◌≡◌ {A = ℕ} 0 1 = cc in omega arith
 
-pub find_answers_at_of_no_bytes : FindSays nameless 1 [] (said_found (Found.At 0)) → ⊥
+pub find_answers_at_of_no_bytes : FindSays nameless 1 [] (said_found (Ok (Some 0))) → ⊥
 unfolding find_in table_fits is_name name_bytes name_byte
 find_answers_at_of_no_bytes x = let e : success 0 (0 ∷ []) ≡ success 1 [] = x.answer in let z : ◌≡◌ {A = ℕ} 0 1 = cc in omega arith
 
 -- A table of one item that is said to have two.
-pub find_is_absent_of_a_short_table : FindSays only_a 2 (98 ∷ []) (said_found Found.Absent) → ⊥
+pub find_is_absent_of_a_short_table : FindSays only_a 2 (98 ∷ []) (said_found (Ok None)) → ⊥
 unfolding find_in table_fits
 find_is_absent_of_a_short_table x = let e : success 1 [] ≡ refused 10 0 = x.answer in let z : ◌≡◌ {A = ℕ} 0 1 = cc in omega arith
 

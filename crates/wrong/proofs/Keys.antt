@@ -6,9 +6,9 @@ use mathlib.Core.List.{[], ◌∷◌}
 use Prim.Native.Nat.{ℕ}
 use native.Mathlib.Omega.{arith}
 use lib.ListN.{drop}
-use Rattle.keys.specs.Keys.{key_text, starts_with, key_at, key_number, next_allowed}
+use Rattle.std.specs.Prelude.{None}
+use Rattle.keys.specs.Keys.{key_text, starts_with, key_found, key_at, key_number, next_allowed}
 use Rattle.keys.specs.declared.Key.{Key}
-use Rattle.keys.specs.declared.ReadKey.{ReadKey}
 
 pub may_follow_lets_end_be_first : true ≡ next_allowed 0 5 → ⊥
 unfolding next_allowed
@@ -23,11 +23,11 @@ pub key_number_of_end_is_0 : 0 ≡ key_number Key.End → ⊥
 key_number_of_end_is_0 e = let z : ◌≡◌ {A = ℕ} 0 5 = e in omega arith
 
 -- The text "end=".
-pub read_key_is_bad_at_the_end_of_the_text : ReadKey.Bad ≡ key_at (drop 0 (key_text Key.End)) → ⊥
+pub read_key_is_bad_at_the_end_of_the_text : None ≡ key_at (drop 0 (key_text Key.End)) → ⊥
 unfolding key_at starts_with
-read_key_is_bad_at_the_end_of_the_text e = let f : ReadKey.Bad ≡ ReadKey.Found Key.End 4 = e in let z : ◌≡◌ {A = ℕ} 0 1 = cc in omega arith
+read_key_is_bad_at_the_end_of_the_text e = let f : None ≡ key_found Key.End 4 = e in let z : ◌≡◌ {A = ℕ} 0 1 = cc in omega arith
 
 -- The text "end".
-pub read_key_finds_end_without_its_sign : ReadKey.Found Key.End 3 ≡ key_at (drop 0 (101 ∷ 110 ∷ 100 ∷ [])) → ⊥
+pub read_key_finds_end_without_its_sign : key_found Key.End 3 ≡ key_at (drop 0 (101 ∷ 110 ∷ 100 ∷ [])) → ⊥
 unfolding key_at starts_with
-read_key_finds_end_without_its_sign e = let f : ReadKey.Found Key.End 3 ≡ ReadKey.Bad = e in let z : ◌≡◌ {A = ℕ} 0 1 = cc in omega arith
+read_key_finds_end_without_its_sign e = let f : key_found Key.End 3 ≡ None = e in let z : ◌≡◌ {A = ℕ} 0 1 = cc in omega arith

@@ -5,6 +5,7 @@ use mathlib.Core.List.{List, [], ◌∷◌, ◌++◌}
 use Prim.Native.Nat.{ℕ}
 use native.Mathlib.Omega.{arith}
 use lib.ListN.{get_or}
+use Rattle.std.specs.Prelude.{Ok}
 use Rattle.refusals.specs.declared.Fault.{Fault}
 use Rattle.refusals.specs.Said.{Said, success, refused}
 use Rattle.scans.specs.Bytes.{decimal_byte, run_len}
@@ -14,15 +15,14 @@ use Rattle.keys.specs.Keys.{key_text, starts_with, key_at, next_allowed}
 use Rattle.keys.specs.declared.Key.{Key}
 use Rattle.lines.specs.Values.{form_at}
 use Rattle.rules.specs.declared.Head.{Head}
-use Rattle.reader.specs.declared.ReadBook.{ReadBook}
 use Rattle.reader.specs.Lines.{refused_at, end_step, line_step, step}
 use Rattle.reader.specs.Reading.{said_read, read_from, read_answer, ReadSays}
 
 -- A text of no bytes has no end line: it is 8 at 1.
-pub read_answers_a_book_of_no_bytes : (h : Head) (a b c d : List ℕ) → ReadSays [] a b (said_read (ReadBook.Book h)) c d → ⊥
+pub read_answers_a_book_of_no_bytes : (h : Head) (a b c d : List ℕ) → ReadSays [] a b (said_read (Ok h)) c d → ⊥
 unfolding read_answer read_from
 read_answers_a_book_of_no_bytes h a b c d x =
-    let e : said_read (ReadBook.Book h) ≡ refused 8 1 = x.answer in let z : ◌≡◌ {A = ℕ} 0 1 = cc in omega arith
+    let e : said_read (Ok h) ≡ refused 8 1 = x.answer in let z : ◌≡◌ {A = ℕ} 0 1 = cc in omega arith
 
 pub read_answers_syntax_of_no_bytes : (p : ℕ) (a b c d : List ℕ) → ReadSays [] a b (said_read (refused_at Fault.Syntax p)) c d → ⊥
 unfolding read_answer read_from
@@ -51,7 +51,7 @@ unfolding read_answer read_from step line_step end_step key_at starts_with next_
 read_refuses_an_empty_book f p c d x =
     let e : said_read (refused_at f p) ≡ success 0 (0 ∷ 0 ∷ []) = x.answer in let z : ◌≡◌ {A = ℕ} 0 1 = cc in omega arith
 
-pub read_answers_a_book_of_a_wrong_end_count : (h : Head) (a b c d : List ℕ) → ReadSays (ended 50) a b (said_read (ReadBook.Book h)) c d → ⊥
+pub read_answers_a_book_of_a_wrong_end_count : (h : Head) (a b c d : List ℕ) → ReadSays (ended 50) a b (said_read (Ok h)) c d → ⊥
 unfolding read_answer read_from step line_step end_step key_at starts_with next_allowed form_at decimal_of_run leading_zero run_len decimal_byte value_after digit_value
 read_answers_a_book_of_a_wrong_end_count h a b c d x =
-    let e : said_read (ReadBook.Book h) ≡ refused 8 2 = x.answer in let z : ◌≡◌ {A = ℕ} 0 1 = cc in omega arith
+    let e : said_read (Ok h) ≡ refused 8 2 = x.answer in let z : ◌≡◌ {A = ℕ} 0 1 = cc in omega arith

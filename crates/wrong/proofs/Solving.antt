@@ -7,6 +7,8 @@ use Prim.Native.Nat.{ℕ, zero, suc, ◌≤◌, ◌<◌, max, zero-le}
 use native.Mathlib.Nat.{not-suc-le-zero}
 use native.Mathlib.Omega.{arith}
 use lib.ListN.{get_or, replicate}
+use Rattle.std.specs.Prelude.{Result, Ok, Err}
+use Rattle.refusals.specs.declared.Refusal.{Refusal}
 use Rattle.classes.specs.Bits.{bit, word}
 use Rattle.classes.specs.Class.{IsClass, joined, lowest}
 use Rattle.classes.specs.Parts.{part}
@@ -23,7 +25,6 @@ use Rattle.rules.specs.declared.Head.{Head}
 use Rattle.rules.specs.Record.{meaning_of}
 use Rattle.rules.specs.Table.{word_at, rule_at, book_of}
 use Rattle.accepts.proofs.Inside.{table_inside}
-use Rattle.solver.specs.declared.Solved.{Solved}
 use Rattle.solver.specs.Solving.{said_solved, Buffers, held, WritesLabels, RefusesBook, SolveSays, bad_table, no_room, has_no_labelling, writes_labels}
 use Rattle.solver.proofs.Unique.{says_unique}
 use Rattle.wrong.specs.InnerExample.{head, two_items, wrong_count}
@@ -51,13 +52,13 @@ above_lowest : {n : ℕ} {f : ℕ → Class} → Wanted classes (book_of (head n
 above_lowest {n} w i d = (w.least (λ j. lowest) (lowest_labels n) i d).covered.level
 
 -- One that refuses every book.
-pub solve_refuses_every_book : (before after : Buffers) (p : ℕ) → SolveSays two_items [] before (said_solved (Solved.Refused (record { fault = Fault.NoLabelling; place = p }))) after → ⊥
+pub solve_refuses_every_book : (before after : Buffers) (p : ℕ) → SolveSays two_items [] before (said_solved (Err (record { fault = Fault.NoLabelling; place = p }))) after → ⊥
 solve_refuses_every_book before after p x =
     let r = refused_book x refl in
     refused_unlabelled (book_of two_items []) (table_inside r.accepted) r.unlabelled (lowest_labels 2)
 
 -- One that always answers the highest class.
-pub solve_answers_the_highest_class : (before : Buffers) (marks : List ℕ) → SolveSays two_items [] before (said_solved (Solved.Labelled 2)) (held (15 ∷ 15 ∷ []) marks) → ⊥
+pub solve_answers_the_highest_class : (before : Buffers) (marks : List ℕ) → SolveSays two_items [] before (said_solved (Ok 2)) (held (15 ∷ 15 ∷ []) marks) → ⊥
 solve_answers_the_highest_class before marks x =
     let z : 15 ≤ 0 = above_lowest (wrote x refl).wanted 0 (record { item = omega arith; before = λ j l. absurd (not-suc-le-zero l); differs = differ }) in omega arith
   where
@@ -65,7 +66,7 @@ solve_answers_the_highest_class before marks x =
     differ e = let z : ◌≡◌ {A = ℕ} 15 0 = ap (λ (c : Class). c.level) e in omega arith
 
 -- One that writes no labels: the buffers stay as they were.
-pub solve_writes_no_labels : (marks : List ℕ) → SolveSays two_items [] (held (7 ∷ 7 ∷ []) marks) (said_solved (Solved.Labelled 2)) (held (7 ∷ 7 ∷ []) marks) → ⊥
+pub solve_writes_no_labels : (marks : List ℕ) → SolveSays two_items [] (held (7 ∷ 7 ∷ []) marks) (said_solved (Ok 2)) (held (7 ∷ 7 ∷ []) marks) → ⊥
 solve_writes_no_labels marks x =
     let z : 7 ≤ 0 = above_lowest (wrote x refl).wanted 0 (record { item = omega arith; before = λ j l. absurd (not-suc-le-zero l); differs = differ }) in omega arith
   where
@@ -73,7 +74,7 @@ solve_writes_no_labels marks x =
     differ e = let z : ◌≡◌ {A = ℕ} 7 0 = ap (λ (c : Class). c.level) e in omega arith
 
 -- One that lowers the first item and merely copies the rest.
-pub solve_copies_the_rest : (before : Buffers) → SolveSays two_items [] before (said_solved (Solved.Labelled 2)) (held (0 ∷ 15 ∷ []) (0 ∷ 0 ∷ [])) → ⊥
+pub solve_copies_the_rest : (before : Buffers) → SolveSays two_items [] before (said_solved (Ok 2)) (held (0 ∷ 15 ∷ []) (0 ∷ 0 ∷ [])) → ⊥
 solve_copies_the_rest before x =
     let z : 15 ≤ 0 = above_lowest (wrote x refl).wanted 1 (record { item = omega arith; before = same; differs = differ }) in omega arith
   where
@@ -85,14 +86,14 @@ solve_copies_the_rest before x =
     differ e = let z : ◌≡◌ {A = ℕ} 15 0 = ap (λ (c : Class). c.level) e in omega arith
 
 -- The count of the rules.
-pub solve_answers_the_count_of_rules : (before after : Buffers) → SolveSays two_items [] before (said_solved (Solved.Labelled wrong_count)) after → ⊥
+pub solve_answers_the_count_of_rules : (before after : Buffers) → SolveSays two_items [] before (said_solved (Ok wrong_count)) after → ⊥
 solve_answers_the_count_of_rules before after x = let z : ◌≡◌ {A = ℕ} wrong_count 2 = (wrote x refl).count in omega arith
 
 -- P3: the join of items 0 and 1 covers 1/0.
 abbrev p3 : List ℕ
 p3 = 1 ∷ 2 ∷ 0 ∷ 1 ∷ replicate 7 0 ++ 1 ∷ 0 ∷ []
 
-pub solve_leaves_zeros : (before : Buffers) → SolveSays (head 2 1) p3 before (said_solved (Solved.Labelled 2)) (held (0 ∷ 0 ∷ []) (0 ∷ 0 ∷ [])) → ⊥
+pub solve_leaves_zeros : (before : Buffers) → SolveSays (head 2 1) p3 before (said_solved (Ok 2)) (held (0 ∷ 0 ∷ []) (0 ∷ 0 ∷ [])) → ⊥
 unfolding meaning_of rule_at word_at joined
 solve_leaves_zeros before x = let z : 1 ≤ 0 = ((wrote x refl).wanted.labelling.meets 0 (omega arith)).level in omega arith
 
@@ -110,7 +111,7 @@ second_charged = record { labels = small; meets = meets }
     meets zero l = record { level = omega arith; marks = λ k s h. h }
     meets (suc r) l = absurd (omega arith)
 
-pub solve_charges_the_first_item : (before : Buffers) → SolveSays (head 2 1) p3 before (said_solved (Solved.Labelled 2)) (held (1 ∷ 0 ∷ []) (0 ∷ 0 ∷ [])) → ⊥
+pub solve_charges_the_first_item : (before : Buffers) → SolveSays (head 2 1) p3 before (said_solved (Ok 2)) (held (1 ∷ 0 ∷ []) (0 ∷ 0 ∷ [])) → ⊥
 solve_charges_the_first_item before x =
     let z : 1 ≤ 0 = ((wrote x refl).wanted.least (labels_in (0 ∷ 1 ∷ []) (0 ∷ 0 ∷ [])) second_charged 0 first).covered.level in omega arith
   where
@@ -125,14 +126,14 @@ solve_charges_the_first_item before x =
 abbrev p5 : List ℕ
 p5 = 0 ∷ 1 ∷ replicate 11 0 ++ 1 ∷ 1 ∷ replicate 9 0 ++ 1 ∷ 0 ∷ []
 
-pub solve_labels_a_book_that_has_no_labelling : (before after : Buffers) → SolveSays (head 1 2) p5 before (said_solved (Solved.Labelled 1)) after → ⊥
+pub solve_labels_a_book_that_has_no_labelling : (before after : Buffers) → SolveSays (head 1 2) p5 before (said_solved (Ok 1)) after → ⊥
 unfolding meaning_of rule_at word_at joined
 solve_labels_a_book_that_has_no_labelling before after x =
     let l = (wrote x refl).wanted.labelling in
     let low : get_or after.levels 0 0 ≤ 0 = (l.meets 0 (omega arith)).level in
     let high : 1 ≤ max 0 (get_or after.levels 0 0) = (l.meets 1 (omega arith)).level in omega arith
 
-pub solve_refuses_at_a_later_part : (before after : Buffers) → SolveSays (head 1 2) p5 before (said_solved (Solved.Refused (record { fault = Fault.NoLabelling; place = 1 }))) after → ⊥
+pub solve_refuses_at_a_later_part : (before after : Buffers) → SolveSays (head 1 2) p5 before (said_solved (Err (record { fault = Fault.NoLabelling; place = 1 }))) after → ⊥
 unfolding meaning_of rule_at word_at part
 solve_refuses_at_a_later_part before after x = go ((refused_book x refl).unlabelled.lower 0 (omega arith))
   where
@@ -145,11 +146,11 @@ solve_refuses_at_a_later_part before after x = go ((refused_book x refl).unlabel
 too_many : (t : List ℕ) (before : Buffers) → SolveSays (head 1 1025) t before (refused 10 0) before
 too_many t before = bad_table (record { bad = λ a. let z : 1025 ≤ 1024 = a.accepted.rules in omega arith; untouched = refl })
 
-pub solve_writes_labels_on_a_refusal : (t marks : List ℕ) (a : Solved) → SolveSays (head 1 1025) t (held (7 ∷ []) marks) (said_solved a) (held (0 ∷ []) marks) → ⊥
+pub solve_writes_labels_on_a_refusal : (t marks : List ℕ) (a : Result ℕ Refusal) → SolveSays (head 1 1025) t (held (7 ∷ []) marks) (said_solved a) (held (0 ∷ []) marks) → ⊥
 solve_writes_labels_on_a_refusal t marks a x =
     let z : ◌≡◌ {A = ℕ} 0 7 = ap (λ (b : Buffers). get_or b.levels 0 0) (says_unique x (too_many t (held (7 ∷ []) marks))).1 in omega arith
 
 pub solve_answers_no_room_of_a_bad_table : (t : List ℕ) (before after : Buffers)
-    → SolveSays (head 1 1025) t before (said_solved (Solved.Refused (record { fault = Fault.NoRoom; place = 0 }))) after → ⊥
+    → SolveSays (head 1 1025) t before (said_solved (Err (record { fault = Fault.NoRoom; place = 0 }))) after → ⊥
 solve_answers_no_room_of_a_bad_table t before after x =
     let e : refused 11 0 ≡ refused 10 0 = (says_unique x (too_many t before)).0 in let z : ◌≡◌ {A = ℕ} 11 10 = cc in omega arith

@@ -1,5 +1,6 @@
 -- Wrong answers of `stripping`, for one column that is kept, and a text of one record, "a" and CRLF, from record 1 on.
 -- Assumes nothing.
+use Rattle.std.specs.Prelude.{Err}
 use mathlib.Core.Path.{◌≡◌}
 use mathlib.Core.Bool.{Bool, true, false}
 use mathlib.Core.List.{List, [], ◌∷◌}
@@ -10,7 +11,6 @@ use Rattle.records.specs.Fields.{plain_byte, after_cr, behind, scan}
 use Rattle.records.specs.Rows.{row_of, record_at}
 use Rattle.exports.specs.Rows.{taken_from}
 use Rattle.exports.specs.Text.{kept_of, commaed, with_commas, record_lines, HeldBackApart}
-use Rattle.stripping.specs.declared.Stripped.{Stripped}
 use Rattle.stripping.specs.Stripping.{said_cut, said_stripped, strip_answer, StripSays}
 
 abbrev kept : List Bool
@@ -21,19 +21,19 @@ text = 97 ∷ 13 ∷ 10 ∷ []
 
 -- The line has room exactly.
 pub strip_has_no_room_for_an_exact_line : (d : List ℕ)
-    → StripSays text false kept 1 (0 ∷ 0 ∷ 0 ∷ []) (said_stripped (Stripped.Refused (record { fault = Fault.NoRoom; place = 0 }))) d → ⊥
+    → StripSays text false kept 1 (0 ∷ 0 ∷ 0 ∷ []) (said_stripped (Err (record { fault = Fault.NoRoom; place = 0 }))) d → ⊥
 unfolding strip_answer taken_from record_at row_of scan behind after_cr plain_byte record_lines with_commas commaed kept_of
 strip_has_no_room_for_an_exact_line d x =
-    let f : said_stripped (Stripped.Refused (record { fault = Fault.NoRoom; place = 0 })) ≡ said_cut 3 3 1 = x.answer in
+    let f : said_stripped (Err (record { fault = Fault.NoRoom; place = 0 })) ≡ said_cut 3 3 1 = x.answer in
     let z : ◌≡◌ {A = ℕ} 0 1 = cc in
     omega arith
 
 -- "a" alone is no bad record while more may come.
 pub strip_refuses_an_unfinished_record : (d : List ℕ)
-    → StripSays (97 ∷ []) false kept 1 [] (said_stripped (Stripped.Refused (record { fault = Fault.CsvSyntax; place = 1 }))) d → ⊥
+    → StripSays (97 ∷ []) false kept 1 [] (said_stripped (Err (record { fault = Fault.CsvSyntax; place = 1 }))) d → ⊥
 unfolding strip_answer taken_from record_at row_of scan behind after_cr plain_byte record_lines with_commas commaed kept_of
 strip_refuses_an_unfinished_record d x =
-    let f : said_stripped (Stripped.Refused (record { fault = Fault.CsvSyntax; place = 1 })) ≡ said_cut 0 0 0 = x.answer in
+    let f : said_stripped (Err (record { fault = Fault.CsvSyntax; place = 1 })) ≡ said_cut 0 0 0 = x.answer in
     let z : ◌≡◌ {A = ℕ} 0 1 = cc in
     omega arith
 

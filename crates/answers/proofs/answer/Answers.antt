@@ -1,10 +1,6 @@
--- `answer` meets its contract. Assumes nothing.
-use borrow.Author.Rules.{rules}
-use Rattle.answers.proofs.Says.{routine_roomless, routine_copied}
+-- `answer` meets its contract: the text that was made, copied out. Assumes nothing.
+use Rattle.answers.proofs.Says.{routine_says}
 use Rattle.answers.proofs.answer.Goals as goal
 
-pub returns-then-out-len : goal.returns-then-out-len
-returns-then-out-len c = search (routine_roomless, rules)
-
 pub returns : goal.returns
-returns c = search (routine_copied, rules)
+returns c = rw (c.ok_or.ensures.value, c.at.ensures) (routine_says c.make-len.ensures c.put.ensures)

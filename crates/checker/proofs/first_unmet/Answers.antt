@@ -1,19 +1,14 @@
--- `checker::first_unmet` meets its contract. The loop's invariant: every rule passed is met.
+-- `checker::first_unmet` meets its contract: what the test tells of each number, the search tells of all.
 -- Assumes nothing.
-use native.Mathlib.Omega.{arith}
-use Rattle.laws.proofs.First.{all_none, sought_nowhere}
-use Rattle.checker.proofs.Meets.{all_met_more, unmet_here}
 use borrow.Author.Rules.{rules}
+use Rattle.std.proofs.lemmas.Iterator.{first_from_Range}
+use Rattle.laws.proofs.Tells.{told_no, told_yes}
+use Rattle.rules.specs.Table.{rule_at}
+use Rattle.checker.specs.Checking.{RuleMet}
+use Rattle.checker.proofs.Meets.{sought_first}
 use Rattle.checker.proofs.first_unmet.Goals as goal
 
-pub loop-r-init : goal.loop-r-init
-loop-r-init c = (all_none, omega arith)
-
-pub returns-then-not-met : goal.returns-then-not-met
-returns-then-not-met c = search (unmet_here, rules)
-
-pub loop-r-preserved : goal.loop-r-preserved
-loop-r-preserved c = (search (all_met_more, rules), omega arith)
-
-pub returns : goal.returns
-returns c = search (sought_nowhere, rules)
+pub returns-clause-sought : goal.returns-clause-sought
+returns-clause-sought c =
+    let met = RuleMet (rule_at c.args.rules.now) c.args.labels.levels.now c.args.labels.marks.now in
+    sought_first _ (first_from_Range _ _ _ c.find.result (λ r. met r → ⊥) met c.find.ensures.ran (λ x q h. search (told_no, h, rules)) (λ x q h. search (told_yes, h, rules)))

@@ -1,17 +1,14 @@
 -- `checker::judged` meets its contract: one law for each answer.
 -- Assumes nothing.
-use Rattle.checker.proofs.Says.{judges_no_room, judges_bad_label, judges_unmet, judges_met}
+use Rattle.checker.proofs.Says.{judges_no_room, judges_bad_label, judges_rules}
 use borrow.Author.Rules.{rules}
 use Rattle.checker.proofs.judged.Goals as goal
 
 pub returns-then-not-has_room : goal.returns-then-not-has_room
 returns-then-not-has_room c = search (judges_no_room, rules)
 
-pub returns-then-bad-head : goal.returns-then-bad-head
-returns-then-bad-head c = search (judges_bad_label, rules)
+pub returns-in-Some : goal.returns-in-Some
+returns-in-Some c = search (judges_bad_label, rules)
 
-pub returns-then-unmet-head : goal.returns-then-unmet-head
-returns-then-unmet-head c = search (judges_unmet, rules)
-
-pub returns : goal.returns
-returns c = search (judges_met, rules)
+pub returns-in-None : goal.returns-in-None
+returns-in-None c = search (judges_rules, rules)

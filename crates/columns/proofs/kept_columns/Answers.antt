@@ -9,8 +9,8 @@ returns-then-not-items_ok c = search (says_items, rules)
 pub returns-then-not-has_room : goal.returns-then-not-has_room
 returns-then-not-has_room c = search (says_labels, rules)
 
-pub returns-then-bad-n : goal.returns-then-bad-n
-returns-then-bad-n c = search (says_label, rules)
+pub returns-in-Some : goal.returns-in-Some
+returns-in-Some c = search (says_label, rules)
 
 pub returns : goal.returns
 returns c = search (says_header, rules)

@@ -1,16 +1,16 @@
--- `byte` meets its contract: what it does not read lies past the table's end. Assumes nothing.
-use mathlib.Core.Path.{refl, sym}
+-- `byte` meets its contract. Assumes nothing.
+use mathlib.Core.Path.{◌≡◌, ap, ◌∙◌}
+use Prim.Native.Nat.{ℕ, ◌+◌}
 use native.Mathlib.Omega.{arith}
-use Rattle.items.specs.Table.{entry_byte}
-use Rattle.items.proofs.Table.{past_end}
+use borrow.Author.Rules.{rules}
+use lib.ListN.{get_or}
+use Rattle.std.specs.Prelude.{min}
+use Rattle.items.proofs.Table.{byte_at}
 use Rattle.items.proofs.byte.Goals as goal
 
-pub returns-then-items-i : goal.returns-then-items-i
-returns-then-items-i c = sym (past_end _ _ _ (omega arith))
-
-pub returns-then-items-at : goal.returns-then-items-at
-returns-then-items-at c = sym (past_end _ _ _ (omega arith))
-
 pub returns : goal.returns
-unfolding entry_byte
-returns c = refl
+returns c =
+    let e : c.unwrap_or.result ≡ get_or c.args.items.now c.saturating_add-at.result 0 = search rules in
+    e
+    ∙ byte_at c.args.items.now c.args.i c.args.k 18446744073709551615 c.saturating_add-at.result (omega arith)
+    (c.saturating_add-at.ensures ∙ ap (λ (m : ℕ). min (m + c.args.k) 18446744073709551615) c.saturating_mul.ensures)

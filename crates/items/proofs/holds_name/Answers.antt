@@ -1,13 +1,12 @@
 -- `holds_name` meets its contract: an entry is a name exactly if the bytes before its first zero byte are one and the others are zero.
 -- Assumes nothing.
 use mathlib.Core.Path.{◌≡◌, sym, ap, ◌∙◌}
-use mathlib.Core.Bool.{Bool, true, false, not}
+use mathlib.Core.Bool.{Bool, true, false}
 use mathlib.Core.List.{List}
-use Prim.Native.Nat.{ℕ, ◌+◌, ◌-◌, ◌*◌, ◌<◌}
+use Prim.Native.Nat.{ℕ, ◌+◌, ◌-◌, ◌*◌}
 use native.Mathlib.Omega.{arith}
 use lib.ListN.{take, drop}
 use borrow.Author.Rules.{rules}
-use borrow.Author.Tests.{not-true, not-false}
 use Rattle.laws.specs.Tells.{Tells}
 use Rattle.laws.proofs.Bools.{true_not_false}
 use Rattle.laws.proofs.Tells.{tells_no}
@@ -25,20 +24,20 @@ module _ (t : List ℕ) (i len : ℕ) (r : Bool) (e : len ≡ name_len t i) (q :
   name_answer : is_name (name_of t i) ≡ r
   name_answer = ap is_name (sym (part_is_name t i len e)) ∙ sym q
 
-  other_bytes : not r ≡ true → Tells (NameAt t i) false
-  other_bytes f = tells_no (λ h. true_not_false (spelled_name (named_spelled h)) (name_answer ∙ not-true r f))
+  other_bytes : r ≡ false → Tells (NameAt t i) r
+  other_bytes f = rw f (tells_no (λ h. true_not_false (spelled_name (named_spelled h)) (name_answer ∙ f)))
 
-  rest_tells : {s : Bool} → not r ≡ false → Tells (ZerosFrom t i len) s → Tells (NameAt t i) s
+  rest_tells : {s : Bool} → r ≡ true → Tells (ZerosFrom t i len) s → Tells (NameAt t i) s
   rest_tells f z = record {
-    holds = λ g. spelled_named t i (name_spelled (name_of t i) (name_answer ∙ not-false r f)) (rw e at (z.holds g));
+    holds = λ g. spelled_named t i (name_spelled (name_of t i) (name_answer ∙ f)) (rw e at (z.holds g));
     fails = λ g h. z.fails g (rw e (named_rest h));
   }
 
-no_bytes : (t : List ℕ) (i len : ℕ) → len ≡ name_len t i → len < 1 → Tells (NameAt t i) false
+no_bytes : (t : List ℕ) (i len : ℕ) → len ≡ name_len t i → len ≡ 0 → Tells (NameAt t i) false
 no_bytes t i len e h = tells_no (λ g. omega (arith, named_len g, g.least))
 
-pub returns-then-len-lt1 : goal.returns-then-len-lt1
-returns-then-len-lt1 c = search (no_bytes, rules)
+pub returns-then-len-eq0 : goal.returns-then-len-eq0
+returns-then-len-eq0 c = search (no_bytes, rules)
 
 pub overflow_mul-at : goal.overflow_mul-at
 overflow_mul-at c = omega (arith, name_len_inside c.args.items.now c.args.i)
@@ -49,8 +48,8 @@ overflow_add-at c = omega (arith, name_len_inside c.args.items.now c.args.i)
 pub slice_bounds-is_name-end : goal.slice_bounds-is_name-end
 slice_bounds-is_name-end c = omega (arith, name_len_inside c.args.items.now c.args.i)
 
-pub returns-then-not-is_name : goal.returns-then-not-is_name
-returns-then-not-is_name c = search (other_bytes, rules)
+pub returns-then-is_name : goal.returns-then-is_name
+returns-then-is_name c = search (rest_tells, rules)
 
-pub returns : goal.returns
-returns c = search (rest_tells, rules)
+pub returns-else-is_name : goal.returns-else-is_name
+returns-else-is_name c = search (other_bytes, rules)

@@ -1,19 +1,12 @@
--- `is_new` meets its contract. The loop's invariant: no entry passed is the same. The measure is what is left of the entries before this one.
--- Assumes nothing.
-use native.Mathlib.Omega.{arith}
-use borrow.Author.Count.{below_none, below_more}
-use Rattle.laws.proofs.Tells.{tells_no, tells_yes}
+-- `is_new` meets its contract. Assumes nothing.
+use borrow.Author.Rules.{rules}
+use Rattle.items.specs.Table.{SameEntry}
+use Rattle.items.proofs.Told.{all_told, new_told}
+use Rattle.laws.proofs.Tells.{told_no, told_yes}
 use Rattle.items.proofs.is_new.Goals as goal
 
-pub loop-i-init : goal.loop-i-init
-loop-i-init c = below_none _
-
-pub returns-then-same : goal.returns-then-same
-returns-then-same c =
-    tells_no (λ n. n.new _ c.loop-i-test.true (c.same.ensures.holds c.if-same.true))
-
-pub loop-i-preserved : goal.loop-i-preserved
-loop-i-preserved c = below_more _ _ c.loop-i.invariant (c.same.ensures.fails c.if-same.false)
-
 pub returns : goal.returns
-returns c = tells_yes (record { new = λ i l. c.loop-i.invariant i (omega arith) })
+returns c =
+    new_told
+    (all_told _ _ _ c.all.result (λ i. SameEntry c.args.items.now i c.args.items.now c.args.j → ⊥) c.all.ensures.ran (λ x q h. search (told_no, h, rules))
+    (λ x q h. search (told_yes, h, rules)))

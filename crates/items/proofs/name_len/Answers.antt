@@ -1,19 +1,20 @@
--- `name_len` meets its contract. The loop's invariant: no byte passed is zero. The measure is what is left of 16. Assumes nothing.
-use mathlib.Core.Path.{sym, ◌∙◌}
-use native.Mathlib.Omega.{arith}
-use borrow.Author.Count.{below_none, below_more}
-use Rattle.items.proofs.Table.{name_len_is}
+-- `name_len` meets its contract. Assumes nothing.
+use mathlib.Core.Path.{◌≡◌}
+use mathlib.Core.Bool.{Bool, true, false}
+use Prim.Native.Nat.{ℕ}
+use borrow.Author.Rules.{rules}
+use lib.Dec.{eqb}
+use Rattle.std.proofs.lemmas.Iterator.{first_from_Range}
+use Rattle.laws.proofs.Search.{first_is}
+use Rattle.items.specs.Table.{entry_byte, name_len}
+use Rattle.items.proofs.Told.{first_told}
 use Rattle.items.proofs.name_len.Goals as goal
 
-pub loop-k-init : goal.loop-k-init
-loop-k-init c = below_none _
-
-pub returns-then-byte-eq0 : goal.returns-then-byte-eq0
-returns-then-byte-eq0 c =
-    name_len_is _ _ _ (omega arith) c.loop-k.invariant (λ l. sym c.byte.ensures ∙ c.if-byte-eq0.true)
-
-pub loop-k-preserved : goal.loop-k-preserved
-loop-k-preserved c = below_more _ _ c.loop-k.invariant (λ e. c.if-byte-eq0.false (c.byte.ensures ∙ e))
-
 pub returns : goal.returns
-returns c = name_len_is _ _ _ (omega arith) (λ j l. c.loop-k.invariant j (omega arith)) (λ l. absurd (omega arith))
+unfolding name_len
+returns c =
+    let f : ℕ → Bool = λ k. eqb (entry_byte c.args.items.now c.args.i k) 0 in
+    rw c.unwrap_or.ensures
+    (first_is
+    (first_told f c.find.result
+    (first_from_Range _ _ _ c.find.result (λ k. f k ≡ true) (λ k. f k ≡ false) c.find.ensures.ran (λ x q h. search (h, rules)) (λ x q h. search (h, rules)))))

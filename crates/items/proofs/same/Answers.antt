@@ -1,22 +1,12 @@
--- `same` meets its contract. The loop's invariant: the bytes passed are equal. The measure is what is left of 16. Assumes nothing.
-use mathlib.Core.Path.{sym, ◌∙◌}
-use native.Mathlib.Omega.{arith}
-use borrow.Author.Count.{below_none, below_more}
-use Rattle.laws.proofs.Tells.{tells_no, tells_yes}
+-- `same` meets its contract. Assumes nothing.
+use mathlib.Core.Path.{◌≡◌}
+use borrow.Author.Rules.{rules}
+use Rattle.items.specs.Table.{entry_byte}
+use Rattle.items.proofs.Told.{all_told, same_told}
 use Rattle.items.proofs.same.Goals as goal
 
-pub loop-k-init : goal.loop-k-init
-loop-k-init c = below_none _
-
-pub returns-then-byte : goal.returns-then-byte
-returns-then-byte c =
-    tells_no
-    (λ s. c.if-byte.true (c.byte.ensures ∙ s.bytes _ c.loop-k-test.true ∙ sym c.byte-in-loop-k.ensures))
-
-pub loop-k-preserved : goal.loop-k-preserved
-loop-k-preserved c =
-    below_more _ _ c.loop-k.invariant
-    (sym c.byte.ensures ∙ c.if-byte.false ∙ c.byte-in-loop-k.ensures)
-
 pub returns : goal.returns
-returns c = tells_yes (record { bytes = λ l h. c.loop-k.invariant l (omega arith) })
+returns c =
+    same_told
+    (all_told _ _ _ c.all.result (λ k. entry_byte c.args.a.now c.args.i k ≡ entry_byte c.args.b.now c.args.j k) c.all.ensures.ran (λ x q h. search (h, rules))
+    (λ x q h. search (h, rules)))

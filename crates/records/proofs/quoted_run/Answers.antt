@@ -1,16 +1,12 @@
--- `quoted_run` meets its contract. The loop's invariant: up to i no byte is a quote. The measure is what is left of the text. Assumes nothing.
+-- `quoted_run` meets its contract. Assumes nothing.
+use native.Mathlib.Omega.{arith}
 use borrow.Author.Rules.{rules}
-use Rattle.records.proofs.Past.{past_none, past_quoted_on, past_quoted_stop, past_quoted_end}
+use lib.ListN.{length-drop}
+use lib.Seq.{take_all}
+use Rattle.records.proofs.Past.{quoted_found}
 use Rattle.records.proofs.quoted_run.Goals as goal
 
-pub loop-i-init : goal.loop-i-init
-loop-i-init c = search (past_none, rules)
-
-pub returns-then-text-i-eq-QUOTE : goal.returns-then-text-i-eq-QUOTE
-returns-then-text-i-eq-QUOTE c = search (past_quoted_stop, rules)
-
-pub loop-i-preserved : goal.loop-i-preserved
-loop-i-preserved c = search (past_quoted_on, rules)
-
 pub returns : goal.returns
-returns c = search (past_quoted_end, rules)
+returns c =
+    rw c.unwrap_or.ensures
+    (quoted_found _ _ c.requires _ (take_all _ _ (omega (arith, length-drop c.args.at c.args.text.now))) c.position.result (search rules))

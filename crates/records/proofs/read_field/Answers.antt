@@ -9,8 +9,8 @@ returns-then-text-at c = search (read_end, rules)
 pub returns-then-text-at-ne-QUOTE : goal.returns-then-text-at-ne-QUOTE
 returns-then-text-at-ne-QUOTE c = search (read_plain, rules)
 
-pub returns-then-len-eq0 : goal.returns-then-len-eq0
-returns-then-len-eq0 c = search (read_open, rules)
+pub returns-in-None : goal.returns-in-None
+returns-in-None c = search (read_open, rules)
 
-pub returns : goal.returns
-returns c = search (read_quoted, rules)
+pub returns-in-Some : goal.returns-in-Some
+returns-in-Some c = search (read_quoted, rules)

@@ -1,4 +1,4 @@
--- `read_row` meets its contract. The loop's invariant: so many fields are read, and their ends are stored. The measure is how many more there may be. Assumes nothing.
+-- `read_row` meets its contract. The loop's invariant: so many fields are read, and their ends are stored. Assumes nothing.
 use borrow.Author.Rules.{rules}
 use Rattle.records.proofs.Reading.{row_starts, row_room, row_order, row_fits, row_fits_on, row_last, row_on, row_many}
 use Rattle.records.proofs.read_row.Goals as goal

@@ -1,20 +1,17 @@
--- `run` meets its contract. The loop's invariant: n bytes are counted. The measure is what is left of the text. Assumes nothing.
-use mathlib.Core.Path.{sym, ◌∙◌}
-use native.Mathlib.Omega.{arith}
-use borrow.Author.Tests.{not-true, not-false}
-use Rattle.scans.proofs.Counted.{counted_none, counted_more, counted_stop, counted_end}
+-- `run` meets its contract: the library counts the bytes at the front that are of the kind. Assumes nothing.
+use Rattle.std.proofs.Common.{sym, ◌∙◌, drop, rules, tests}
+use Rattle.std.proofs.lemmas.Iterator.{YieldsList-from_slice}
+use Rattle.std.proofs.lemmas.Iterator.Consumers.{count_from_yields_List}
+use Rattle.std.proofs.lemmas.Iterator.Search.{YieldsList-from_take_while}
+use Rattle.std.proofs.lemmas.List.Folds.{length-prefix_len}
+use Rattle.scans.specs.Bytes.{kind_of}
+use Rattle.scans.proofs.Runs.{run_prefix}
 use Rattle.scans.proofs.run.Goals as goal
 
-pub loop-n-init : goal.loop-n-init
-loop-n-init c = counted_none
-
-pub returns-then-not-is_of : goal.returns-then-not-is_of
-returns-then-not-is_of c =
-    counted_stop c.loop-n.invariant (omega arith) (sym c.is_of.ensures ∙ not-true _ c.if-not-is_of.true-raw)
-
-pub loop-n-preserved : goal.loop-n-preserved
-loop-n-preserved c =
-    counted_more c.loop-n.invariant (omega arith) (sym c.is_of.ensures ∙ not-false _ c.if-not-is_of.false-raw)
-
 pub returns : goal.returns
-returns c = counted_end c.loop-n.invariant (omega arith)
+returns c =
+    let test = kind_of c.args.kind in
+    let l = drop c.args.at c.args.s.now in
+    count_from_yields_List c.take_while.result _ c.count.ensures.ran
+    (YieldsList-from_take_while _ test (YieldsList-from_slice l cc) c.take_while.ensures.closure c.take_while.ensures.done (λ x b q k. search (rules, tests)))
+    ∙ length-prefix_len test l ∙ sym (run_prefix test l)

@@ -4,8 +4,8 @@ use lib.ListN.{length}
 use Rattle.stripping.proofs.Taking.{TakeAt}
 use Rattle.stripping.proofs.take.Given as goal
 
-abbrev pub invariant-loop-at : goal.invariant-loop-at
-invariant-loop-at l = TakeAt l.text l.last l.kept l.initial.out l.out l.ends l.at l.to l.n
+abbrev pub invariant-loop-cut : goal.invariant-loop-cut
+invariant-loop-cut l = TakeAt l.text l.last l.kept l.initial.out l.out l.ends l.cut
 
-abbrev pub decreases-loop-at : goal.decreases-loop-at
-decreases-loop-at l = length l.text - l.at
+abbrev pub decreases-loop-cut : goal.decreases-loop-cut
+decreases-loop-cut l = length l.text - l.cut.used

@@ -1,4 +1,4 @@
--- `cover` meets its contract. The loop's invariant: it is said of c columns whether they are covered. The measure is how many are left.
+-- `cover` meets its contract. The loop's invariant: it is said of c columns whether they are covered.
 -- Assumes nothing.
 use native.Mathlib.Omega.{arith}
 use Rattle.columns.proofs.Covered.{cover_none, cover_more, cover_all}

@@ -1,10 +1,6 @@
--- `find_items` meets its contract. The loop's invariant: the names before are items, and none is repeated. The measure is how many are left. Assumes nothing.
-use Prim.Native.Nat.{◌-◌}
+-- `find_items` meets its contract. The loop's invariant: the names before are items, and none is repeated. Assumes nothing.
 use Rattle.columns.proofs.Looking.{Looking}
 use Rattle.columns.proofs.header.find_items.Given as goal
 
 abbrev pub invariant-loop-c : goal.invariant-loop-c
 invariant-loop-c l = Looking l.items l.n l.export l.ends l.fields l.initial.numbers l.numbers l.c
-
-abbrev pub decreases-loop-c : goal.decreases-loop-c
-decreases-loop-c l = l.fields - l.c

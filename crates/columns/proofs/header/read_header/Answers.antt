@@ -6,13 +6,11 @@ use Rattle.columns.proofs.header.read_header.Goals as goal
 pub returns-then-last : goal.returns-then-last
 returns-then-last c = search (head_none, rules)
 
-pub returns-then-export-eq0 : goal.returns-then-export-eq0
-returns-then-export-eq0 c = search (head_empty, rules)
+pub returns-else-last : goal.returns-else-last
+returns-else-last c = search (head_empty, rules)
 
 pub find_items-requires : goal.find_items-requires
-find_items-requires c =
-    head_ready c.read_row.ensures (search rules)
-    c.if-export-eq0.false c.in-Whole.is (search rules)
+find_items-requires c = head_ready c.read_row.ensures (search rules) c.is_empty.ensures c.if-is_empty.false c.in-Whole.is (search rules)
 
 pub returns-then-find_items : goal.returns-then-find_items
 returns-then-find_items c = search (head_good, rules)

@@ -3,17 +3,14 @@ use Rattle.reader.proofs.Adding.{rule_full, rule_ninth, rule_no_left, rule_no_ri
 use borrow.Author.Rules.{rules}
 use Rattle.reader.proofs.line.add_rule.Goals as goal
 
-pub returns-then-r-ge-MOST_RULES : goal.returns-then-r-ge-MOST_RULES
-returns-then-r-ge-MOST_RULES c = search (rule_full, rules)
+pub returns-then-c-ge-MOST_RULES : goal.returns-then-c-ge-MOST_RULES
+returns-then-c-ge-MOST_RULES c = search (rule_full, rules)
 
 pub returns-then-value-gt-MOST_LEFT : goal.returns-then-value-gt-MOST_LEFT
 returns-then-value-gt-MOST_LEFT c = search (rule_ninth, rules)
 
-pub returns-then-not-look_up : goal.returns-then-not-look_up
-returns-then-not-look_up c = search (rule_no_left, rules)
-
 pub returns-in_default : goal.returns-in_default
-returns-in_default c = search (rule_no_right, rules)
+returns-in_default c = search (rule_no_left, rule_no_right, rules)
 
 pub returns-then-not-rises : goal.returns-then-not-rises
 returns-then-not-rises c = search (rule_order, rules)

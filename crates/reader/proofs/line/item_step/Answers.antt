@@ -21,8 +21,8 @@ overflow_add-c c = search (item_counted, rules)
 pub went-requires : goal.went-requires
 went-requires c = search (line_counts, rules)
 
-pub returns-in-Yes : goal.returns-in-Yes
-returns-in-Yes c = search (item_took, rules)
+pub returns-in-Ok : goal.returns-in-Ok
+returns-in-Ok c = search (item_took, rules)
 
-pub returns-in-No : goal.returns-in-No
-returns-in-No c = search (item_not, rules)
+pub returns-in-Err : goal.returns-in-Err
+returns-in-Err c = search (item_not, rules)

@@ -3,8 +3,8 @@ use Rattle.reader.proofs.Turns.{line_counts, rule_from, names_ready, rule_counte
 use borrow.Author.Rules.{rules}
 use Rattle.reader.proofs.line.rule_step.Goals as goal
 
-pub overflow_add-from : goal.overflow_add-from
-overflow_add-from c = search (rule_from, rules)
+pub overflow_add-at : goal.overflow_add-at
+overflow_add-at c = search (rule_from, rules)
 
 pub add_rule-requires : goal.add_rule-requires
 add_rule-requires c = search (names_ready, rules)
@@ -15,8 +15,8 @@ overflow_add-c c = search (rule_counted, rules)
 pub went-requires : goal.went-requires
 went-requires c = search (line_counts, rules)
 
-pub returns-in-Yes : goal.returns-in-Yes
-returns-in-Yes c = search (rule_took, rules)
+pub returns-in-Ok : goal.returns-in-Ok
+returns-in-Ok c = search (rule_took, rules)
 
-pub returns-in-No : goal.returns-in-No
-returns-in-No c = search (rule_not, rules)
+pub returns-in-Err : goal.returns-in-Err
+returns-in-Err c = search (rule_not, rules)

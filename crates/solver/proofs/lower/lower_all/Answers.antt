@@ -1,13 +1,10 @@
 -- `lower::lower_all` meets its contract. Assumes nothing.
-use Rattle.solver.proofs.Lowering.{lowered_none, lowered_more, lowered_all, next_item}
+use Rattle.solver.proofs.Lowering.{lowered_none, lowered_more, lowered_all}
 use borrow.Author.Rules.{rules}
 use Rattle.solver.proofs.lower.lower_all.Goals as goal
 
 pub loop-item-init : goal.loop-item-init
 loop-item-init c = lowered_none
-
-pub lower_item-requires : goal.lower_item-requires
-lower_item-requires c = search (next_item, rules)
 
 pub loop-item-preserved : goal.loop-item-preserved
 loop-item-preserved c = search (lowered_more, rules)

@@ -1,19 +1,19 @@
 -- `settle::push` meets its contract. Assumes nothing.
-use Rattle.solver.proofs.Push.{push_cap, push_floor, push_follow, cap_room, follow_room}
+use Rattle.solver.proofs.Push.{push_cap, push_floor, push_follow, cap_item, follow_item}
 use borrow.Author.Rules.{rules}
 use Rattle.solver.proofs.settle.push.Goals as goal
 
 pub lower-requires : goal.lower-requires
-lower-requires c = search (cap_room, rules)
+lower-requires c = search (cap_item, rules)
 
-pub returns-then-rule-eq-CAP : goal.returns-then-rule-eq-CAP
-returns-then-rule-eq-CAP c = search (push_cap, rules)
+pub lower-requires-in_default : goal.lower-requires-in_default
+lower-requires-in_default c = search (follow_item, rules)
 
-pub returns-then-rule-eq-FLOOR : goal.returns-then-rule-eq-FLOOR
-returns-then-rule-eq-FLOOR c = search (push_floor, rules)
+pub returns-in-0 : goal.returns-in-0
+returns-in-0 c = search (push_cap, rules)
 
-pub lower-requires-2 : goal.lower-requires-2
-lower-requires-2 c = search (follow_room, rules)
+pub returns-in-1 : goal.returns-in-1
+returns-in-1 c = search (push_floor, rules)
 
-pub returns : goal.returns
-returns c = search (push_follow, rules)
+pub returns-in_default : goal.returns-in_default
+returns-in_default c = search (push_follow, rules)

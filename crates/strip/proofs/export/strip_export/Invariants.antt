@@ -2,8 +2,5 @@
 use Rattle.strip.specs.InnerHeld.{Holds}
 use Rattle.strip.proofs.export.strip_export.Given as goal
 
-abbrev pub invariant-loop-turns : goal.invariant-loop-turns
-invariant-loop-turns l = Holds l.input.have l.buf
-
-abbrev pub decreases-loop-turns : goal.decreases-loop-turns
-decreases-loop-turns l = l.turns
+abbrev pub invariant-loop : goal.invariant-loop
+invariant-loop l = Holds l.input.have l.buf

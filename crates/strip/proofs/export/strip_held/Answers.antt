@@ -13,4 +13,4 @@ pub write_records-requires : goal.write_records-requires
 write_records-requires c = search (taken_held, rules)
 
 pub read_on-requires : goal.read_on-requires
-read_on-requires c = none_room _ _ c.strip.ensures c.in-Text.is c.requires (search rules) (search rules)
+read_on-requires c = none_room _ _ c.strip.ensures c.in-Ok.is c.requires (search rules) (search rules)

@@ -3,8 +3,5 @@ use Rattle.std.proofs.Common.{◌≡◌, length}
 use Rattle.strip.specs.InnerHeld.{Holds}
 use Rattle.strip.proofs.export.strip_records.Given as goal
 
-abbrev pub invariant-loop-turns : goal.invariant-loop-turns
-invariant-loop-turns l = record { held : Holds l.place.have l.buf; size : length l.buf ≡ length l.initial.buf }
-
-abbrev pub decreases-loop-turns : goal.decreases-loop-turns
-decreases-loop-turns l = l.turns
+abbrev pub invariant-loop : goal.invariant-loop
+invariant-loop l = record { held : Holds l.place.input.have l.buf; size : length l.buf ≡ length l.initial.buf }

@@ -1,10 +1,7 @@
--- `value` meets its contract. The loop's invariant: i digits are valued. The measure is what is left of them. Assumes nothing.
-use Prim.Native.Nat.{◌-◌}
+-- `value` meets its contract. The loop's invariant: v is the value of the digits so far. Assumes nothing.
+use lib.ListN.{drop}
 use Rattle.tokens.proofs.Valued.{Valued}
 use Rattle.tokens.proofs.numbers.value.Given as goal
 
-abbrev pub invariant-loop-i : goal.invariant-loop-i
-invariant-loop-i l = Valued l.base l.s l.at l.len l.v l.i
-
-abbrev pub decreases-loop-i : goal.decreases-loop-i
-decreases-loop-i l = l.len - l.i
+abbrev pub invariant-loop-b : goal.invariant-loop-b
+invariant-loop-b l = Valued l.base (drop l.at l.s) l.v l.b-index

@@ -1,7 +1,13 @@
 -- `book` meets its contract. Assumes nothing.
-use borrow.Author.Rules.{rules}
-use Rattle.writer.proofs.Lines.{book_grown}
+use Prim.Native.Nat.{◌+◌}
+use Rattle.puts.proofs.Growing.{grown_grown, grown_stops}
+use Rattle.writer.specs.Texts.{end_line, book_text}
 use Rattle.writer.proofs.book.book.Goals as goal
 
+pub returns-in_err-end : goal.returns-in_err-end
+unfolding book_text
+returns-in_err-end c = grown_stops (end_line (1 + c.args.head.items + c.args.head.rules)) c.from_residual.ensures c.in_err-end.ensures
+
 pub returns : goal.returns
-returns c = search (book_grown, rules)
+unfolding book_text
+returns c = grown_grown c.in_ok-end.ensures c.end_line.ensures

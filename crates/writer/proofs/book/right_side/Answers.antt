@@ -9,5 +9,5 @@ put_name-requires c = search (right_named, rules)
 pub returns-then-rule-eq-FOLLOW : goal.returns-then-rule-eq-FOLLOW
 returns-then-rule-eq-FOLLOW c = search (right_name, rules)
 
-pub returns : goal.returns
-returns c = search (right_class, rules)
+pub returns-else-rule-eq-FOLLOW : goal.returns-else-rule-eq-FOLLOW
+returns-else-rule-eq-FOLLOW c = search (right_class, rules)

@@ -1,12 +1,9 @@
--- `label_lines` meets its contract. The loop's invariant: behind the form line i label lines are put. The measure is what is left of the items.
--- Assumes nothing.
-use Prim.Native.Nat.{◌-◌}
-use Rattle.writer.specs.Texts.{label_line}
-use Rattle.writer.proofs.Pieces.{GrownBy}
+-- `label_lines` meets its contract. The loop's invariant: behind the form line i lines of labels are put. Assumes nothing.
+use mathlib.Core.List.{◌++◌}
+use Rattle.writer.specs.Texts.{pieces, form_line, label_line}
+use Rattle.std.specs.Prelude.{Some}
+use Rattle.puts.specs.InnerGrowing.{Grown}
 use Rattle.writer.proofs.labelled.label_lines.Given as goal
 
 abbrev pub invariant-loop-i : goal.invariant-loop-i
-invariant-loop-i l = GrownBy (label_line l.items l.levels l.marks) l.n l.initial.out l.initial.next l.i l.out l.next
-
-abbrev pub decreases-loop-i : goal.decreases-loop-i
-decreases-loop-i l = l.n - l.i
+invariant-loop-i l = Grown l.fn.out 0 (form_line ++ pieces (label_line l.items l.labels.levels.now l.labels.marks.now) 0 l.i) l.out (Some l.next)
