@@ -3,11 +3,11 @@
 // Nothing here refuses. A reader past the table's end finds zero, and what has no room is not put.
 #![tactic(auto)]
 
-ghost use Rattle.std.specs.Prelude.{◌≡◌};
+ghost use Rattle.std.specs.Prelude.{◌≡◌, ◌*◌, drop, get_or};
 ghost use Rattle.meaning.specs.Rules.{join_over};
 ghost use Rattle.meaning.specs.Classes.{classes};
 ghost use Rattle.rules.specs.Record.{kind_of, left_of};
-ghost use Rattle.rules.specs.Table.{word_at, rule_at, WordsPut, RulePut};
+ghost use Rattle.rules.specs.Table.{rule_words, rule_at, WordsPut, RulePut};
 
 use classes::Class;
 use labels::Labelled;
@@ -66,34 +66,40 @@ impl Rule {
     }
 }
 
-// Word k of rule r of a table, and zero past the table's end.
-#[tactic(auto, unfolding(crate::specs::Table::word_at))]
-fn word(rules: &[u64], r: usize, k: usize) -> u64
-    ensures { result ≡ word_at rules.now r k }
+// The words of a table from rule r on, none past its end.
+fn words_from(rules: &[u64], r: usize) -> &[u64]
+    ensures { result.now ≡ drop (r * rule_words) rules.now }
 {
-    let at = r.saturating_mul(WORDS).saturating_add(k);
-    rules.get(at).copied().unwrap_or(0)
+    rules.get(r.saturating_mul(WORDS)..).unwrap_or(&[])
+}
+
+// Word k of these, and zero past their end.
+fn word(words: &[u64], k: usize) -> u64
+    ensures { result ≡ get_or words.now k 0 }
+{
+    words.get(k).copied().unwrap_or(0)
 }
 
 // Rule r of a table. Its left names stand one by one: with `array::from_fn` the proof did not close that each call reads this table.
 pub fn rule_at(rules: &[u64], r: usize) -> Rule
     ensures { result ≡ rule_at rules.now r }
 {
+    let words = words_from(rules, r);
     Rule {
-        kind: word(rules, r, 0),
-        count: word(rules, r, 1),
+        kind: word(words, 0),
+        count: word(words, 1),
         left: [
-            word(rules, r, 2),
-            word(rules, r, 3),
-            word(rules, r, 4),
-            word(rules, r, 5),
-            word(rules, r, 6),
-            word(rules, r, 7),
-            word(rules, r, 8),
-            word(rules, r, 9),
+            word(words, 2),
+            word(words, 3),
+            word(words, 4),
+            word(words, 5),
+            word(words, 6),
+            word(words, 7),
+            word(words, 8),
+            word(words, 9),
         ],
-        right: word(rules, r, 10),
-        class: Class::new(word(rules, r, 11), word(rules, r, 12)),
+        right: word(words, 10),
+        class: Class::new(word(words, 11), word(words, 12)),
     }
 }
 
