@@ -13,7 +13,7 @@ use solver::solve;
 
 // What reading refuses comes first; then 11 at 0 where `items` is shorter than the book's items or there are fewer levels or marks than items; then 9 at the
 // lowest part that has no labelling. A refusal leaves the three buffers as they were. Else the names of the items and their wanted labels are written from
-// the front of the buffers, the rest of each is left, and the answer is the head of the book.
+// the front of the buffers, the rest of each is left, and the answer is the head of the book. Levels and marks are two buffers, as in `solve`.
 pub fn assign(
     text: &[u8],
     items: &mut [u8],

@@ -115,8 +115,8 @@ pub fn key_number(key: Key) -> u64
     key as u64
 }
 
-// Whether a key may come next after the start, 0, or after the key with number `after` - 1. No to any other number:
-// numbers, and no keys, since docs/PROMISES.md promises an answer for any of them (`next_allowed`).
+// Whether a key may come next after the start, 0, or after the key with number `after` - 1. No to any other number.
+// It takes numbers and no keys, since docs/PROMISES.md promises an answer for any of them (`next_allowed`).
 #[tactic(auto, unfolding(crate::specs::Keys::next_allowed))]
 pub fn may_follow(after: u64, key: u64) -> bool
     ensures { result ≡ next_allowed after key }

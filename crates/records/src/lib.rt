@@ -20,7 +20,8 @@ pub const MOST_FIELDS: usize = 256;
 pub const LINE_END: usize = 2;
 
 // What stands behind a field, and the field's bytes, its quotes among them: a comma; a CRLF; nothing; a CR with nothing behind it. Open where the text ends
-// between the field's quotes; Bad where it is no field of RFC 4180 with one of these behind it.
+// between the field's quotes; Bad where it is no field of RFC 4180 with one of these behind it. Six answers about a text, none
+// of them a refusal.
 #[derive(Clone, Copy, Debug, PartialEq, Eq)]
 pub enum Field {
     Comma(usize),

@@ -15,20 +15,20 @@ list_of (Values.Three words) = words
 list_of (Values.Rule words) = words
 
 -- The success is this one of its routine's, and has these values.
-abbrev pub Tells : ℕ → List ℕ → Success → Type 0
-Tells which words s = (s.which ≡ which) × (list_of s.values ≡ words)
+abbrev pub IsSuccess : ℕ → List ℕ → Success → Type 0
+IsSuccess which words s = (s.which ≡ which) × (list_of s.values ≡ words)
 
 -- What stands behind a field, and the field's length where it has one.
 abbrev pub TellsField : Field → Success → Type 0
-TellsField (Field.Comma len) s = Tells 0 (len ∷ []) s
-TellsField (Field.Line len) s = Tells 1 (len ∷ []) s
-TellsField (Field.End len) s = Tells 2 (len ∷ []) s
-TellsField (Field.Cr len) s = Tells 3 (len ∷ []) s
-TellsField Field.Open s = Tells 4 [] s
-TellsField Field.Bad s = Tells 5 [] s
+TellsField (Field.Comma len) s = IsSuccess 0 (len ∷ []) s
+TellsField (Field.Line len) s = IsSuccess 1 (len ∷ []) s
+TellsField (Field.End len) s = IsSuccess 2 (len ∷ []) s
+TellsField (Field.Cr len) s = IsSuccess 3 (len ∷ []) s
+TellsField Field.Open s = IsSuccess 4 [] s
+TellsField Field.Bad s = IsSuccess 5 [] s
 
 -- What stands where a record should.
 abbrev pub TellsSize : Size → Success → Type 0
-TellsSize (Size.Whole row) s = Tells 0 (row.fields ∷ row.bytes ∷ []) s
-TellsSize Size.More s = Tells 1 [] s
-TellsSize Size.Bad s = Tells 2 [] s
+TellsSize (Size.Whole row) s = IsSuccess 0 (row.fields ∷ row.bytes ∷ []) s
+TellsSize Size.More s = IsSuccess 1 [] s
+TellsSize Size.Bad s = IsSuccess 2 [] s

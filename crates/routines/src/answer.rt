@@ -3,7 +3,7 @@ ghost use Rattle.std.specs.Prelude.{◌≡◌, ◌∷◌, [], MatchOption};
 ghost use Rattle.std.specs.Int.{from_bool};
 ghost use Rattle.keys.specs.Keys.{key_number};
 ghost use Rattle.rules.specs.Table.{words_of};
-ghost use Rattle.routines.specs.Told.{list_of, Tells, TellsField, TellsSize};
+ghost use Rattle.routines.specs.Told.{list_of, IsSuccess, TellsField, TellsSize};
 
 use classes::Class;
 use keys::{KeyToken, key_number};
@@ -51,7 +51,7 @@ impl Values {
 
     // The success that has these values, and is so far down in the routine's list.
     fn at(self, which: u64) -> Success
-        ensures { Tells which (list_of self) result }
+        ensures { IsSuccess which (list_of self) result }
     {
         Success {
             which,
@@ -75,7 +75,7 @@ pub fn answer_out<P: Print>(out: &P, answer: Answer) -> io::Result<()> {
 }
 
 impl From<bool> for Success {
-    ghost from_gives = { λ b. Tells 0 (from_bool b ∷ []) };
+    ghost from_gives = { λ b. IsSuccess 0 (from_bool b ∷ []) };
 
     fn from(yes: bool) -> Success {
         Values::One([u64::from(yes)]).at(0)
@@ -83,7 +83,7 @@ impl From<bool> for Success {
 }
 
 impl From<usize> for Success {
-    ghost from_gives = { λ n. Tells 0 (n ∷ []) };
+    ghost from_gives = { λ n. IsSuccess 0 (n ∷ []) };
 
     fn from(n: usize) -> Success {
         Values::One([n as u64]).at(0)
@@ -91,7 +91,7 @@ impl From<usize> for Success {
 }
 
 impl From<Head> for Success {
-    ghost from_gives = { λ h. Tells 0 (h.items ∷ h.rules ∷ []) };
+    ghost from_gives = { λ h. IsSuccess 0 (h.items ∷ h.rules ∷ []) };
 
     fn from(head: Head) -> Success {
         Values::Two([head.items as u64, head.rules as u64]).at(0)
@@ -99,7 +99,7 @@ impl From<Head> for Success {
 }
 
 impl From<Class> for Success {
-    ghost from_gives = { λ c. Tells 0 (c.level ∷ c.marks ∷ []) };
+    ghost from_gives = { λ c. IsSuccess 0 (c.level ∷ c.marks ∷ []) };
 
     fn from(class: Class) -> Success {
         Values::Two([class.level, class.marks]).at(0)
@@ -107,7 +107,7 @@ impl From<Class> for Success {
 }
 
 impl From<Rule> for Success {
-    ghost from_gives = { λ r. Tells 0 (words_of r) };
+    ghost from_gives = { λ r. IsSuccess 0 (words_of r) };
 
     fn from(rule: Rule) -> Success {
         let mut words = [0; WORDS];
@@ -117,7 +117,7 @@ impl From<Rule> for Success {
 }
 
 impl From<Cut> for Success {
-    ghost from_gives = { λ c. Tells 0 (c.used ∷ c.len ∷ c.records ∷ []) };
+    ghost from_gives = { λ c. IsSuccess 0 (c.used ∷ c.len ∷ c.records ∷ []) };
 
     fn from(cut: Cut) -> Success {
         Values::Three([cut.used as u64, cut.len as u64, cut.records as u64]).at(0)
@@ -152,7 +152,7 @@ impl From<Size> for Success {
 }
 
 impl From<Number> for Success {
-    ghost from_gives = { λ n. Tells 0 (n.value ∷ n.len ∷ []) };
+    ghost from_gives = { λ n. IsSuccess 0 (n.value ∷ n.len ∷ []) };
 
     fn from(number: Number) -> Success {
         Values::Two([number.value, number.len as u64]).at(0)
@@ -160,7 +160,7 @@ impl From<Number> for Success {
 }
 
 impl From<ClassToken> for Success {
-    ghost from_gives = { λ t. Tells 0 (t.class.level ∷ t.class.marks ∷ t.len ∷ []) };
+    ghost from_gives = { λ t. IsSuccess 0 (t.class.level ∷ t.class.marks ∷ t.len ∷ []) };
 
     fn from(token: ClassToken) -> Success {
         let class = token.class;
@@ -169,7 +169,7 @@ impl From<ClassToken> for Success {
 }
 
 impl From<KeyToken> for Success {
-    ghost from_gives = { λ t. Tells 0 (key_number t.key ∷ t.len ∷ []) };
+    ghost from_gives = { λ t. IsSuccess 0 (key_number t.key ∷ t.len ∷ []) };
 
     fn from(token: KeyToken) -> Success {
         Values::Two([key_number(token.key), token.len as u64]).at(0)
@@ -178,7 +178,7 @@ impl From<KeyToken> for Success {
 
 // What is not there is the second success of each routine that looks for it.
 impl<T: Into<Success>> From<Option<T>> for Success {
-    ghost from_gives = { λ found r. MatchOption found (Tells 1 [] r) (λ x. T.converts x r) };
+    ghost from_gives = { λ found r. MatchOption found (IsSuccess 1 [] r) (λ x. T.converts x r) };
 
     fn from(found: Option<T>) -> Success {
         match found {
@@ -191,7 +191,7 @@ impl<T: Into<Success>> From<Option<T>> for Success {
 impl Success {
     // Of checking, that every rule is met is the first success, and a rule that is not met the second.
     pub fn of_checking(unmet: Option<usize>) -> Success
-        ensures { MatchOption unmet (Tells 0 [] result) (λ r. Tells 1 (r ∷ []) result) }
+        ensures { MatchOption unmet (IsSuccess 0 [] result) (λ r. IsSuccess 1 (r ∷ []) result) }
     {
         match unmet {
             Some(r) => Values::One([r as u64]).at(1),

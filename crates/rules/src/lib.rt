@@ -115,8 +115,8 @@ pub fn left_join<L: Labelled>(rule: Rule, labels: &L) -> Class
     join
 }
 
-// Puts these words at a place of a table. No where the table has no room for all of them, and then nothing is written: a yes or no, as `WordsPut` says, since
-// nothing else is told.
+// Puts these words at a place of a table. No where the table has no room for all of them, and then nothing is written: a yes or no, since `WordsPut` has
+// nothing else to tell.
 pub fn put_words(words: &[u64], table: &mut [u64], at: usize) -> bool
     ensures { WordsPut words.now at table.old result table.new }
 {
@@ -127,7 +127,7 @@ pub fn put_words(words: &[u64], table: &mut [u64], at: usize) -> bool
     true
 }
 
-// Puts a rule as rule r of a table. No where the table has no room for it, and then nothing is written.
+// Puts a rule as rule r of a table. No where the table has no room for it, and then nothing is written: a yes or no, as of `put_words`.
 pub fn put_rule(rule: Rule, rules: &mut [u64], r: usize) -> bool
     ensures { RulePut rule r rules.old result rules.new }
 {

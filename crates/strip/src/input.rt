@@ -5,7 +5,7 @@ use crate::failure::fail;
 use std::io;
 use std::io::Read;
 
-// How many bytes a buffer holds, and whether the input has ended.
+// How many bytes a buffer holds, and whether the input has ended: the flag that `kept_columns` and `strip` take.
 #[derive(Clone, Copy, Debug, PartialEq, Eq)]
 pub(crate) struct Input {
     pub(crate) have: usize,

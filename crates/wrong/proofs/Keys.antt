@@ -1,11 +1,11 @@
 -- Wrong answers of `keys`.
 -- Assumes nothing.
-use mathlib.Core.Path.{◌≡◌}
+use mathlib.Core.Path.{◌≡◌, ap}
 use mathlib.Core.Bool.{true, false, true≢false}
 use mathlib.Core.List.{[], ◌∷◌}
 use Prim.Native.Nat.{ℕ}
 use native.Mathlib.Omega.{arith}
-use lib.ListN.{drop}
+use lib.ListN.{get_or, drop}
 use Rattle.std.specs.Prelude.{None}
 use Rattle.keys.specs.Keys.{key_text, starts_with, key_found, key_at, key_number, next_allowed}
 use Rattle.keys.specs.declared.Key.{Key}
@@ -21,6 +21,9 @@ may_follow_forbids_an_item_behind_an_item e = let z : true ≡ false = cc in tru
 
 pub key_number_of_end_is_0 : 0 ≡ key_number Key.End → ⊥
 key_number_of_end_is_0 e = let z : ◌≡◌ {A = ℕ} 0 5 = e in omega arith
+
+pub text_of_item_is_that_of_form : key_text Key.Form ≡ key_text Key.Item → ⊥
+text_of_item_is_that_of_form e = let z : ◌≡◌ {A = ℕ} 102 105 = ap (λ l. get_or l 0 0) e in omega arith
 
 -- The text "end=".
 pub read_key_is_bad_at_the_end_of_the_text : None ≡ key_at (drop 0 (key_text Key.End)) → ⊥

@@ -9,7 +9,7 @@ use Rattle.laws.specs.Tells.{Tells}
 use Rattle.laws.specs.First.{Sought}
 use Rattle.classes.specs.Class.{class_of}
 use Rattle.classes.specs.declared.Class.{Class}
-use Rattle.labels.specs.Labels.{labels_in, LevelInRange, Room}
+use Rattle.labels.specs.Labels.{labels_in, listed, LevelInRange, Room}
 
 pub has_room_with_too_few_levels : Tells (Room 2 (1 ∷ []) (0 ∷ 0 ∷ [])) true → ⊥
 has_room_with_too_few_levels t = let z : 2 ≤ 1 = (t.holds refl).for_levels in omega arith
@@ -28,3 +28,7 @@ first_bad_answers_past_the_count x = omega (arith, x.within)
 
 pub label_at_has_the_level_of_item_0 : class_of 1 0 ≡ labels_in (1 ∷ 2 ∷ []) (0 ∷ 0 ∷ []) 1 → ⊥
 label_at_has_the_level_of_item_0 e = let z : ◌≡◌ {A = ℕ} 1 2 = ap (λ (c : Class). c.level) e in omega arith
+
+-- The same of an array of classes.
+pub label_is_that_of_item_0 : class_of 1 0 ≡ listed (class_of 1 0 ∷ class_of 2 0 ∷ []) 1 → ⊥
+label_is_that_of_item_0 e = let z : ◌≡◌ {A = ℕ} 1 2 = ap (λ (c : Class). c.level) e in omega arith

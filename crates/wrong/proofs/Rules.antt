@@ -11,13 +11,18 @@ use Rattle.classes.specs.declared.Class.{Class}
 use Rattle.meaning.specs.Rules.{join_over}
 use Rattle.meaning.specs.Classes.{classes}
 use Rattle.labels.specs.Labels.{labels_in}
+use Rattle.std.specs.Prelude.{Some, None}
 use Rattle.rules.specs.declared.Rule.{Rule}
-use Rattle.rules.specs.Record.{left_of}
+use Rattle.rules.specs.declared.RuleKind.{RuleKind}
+use Rattle.rules.specs.Record.{kind_of, left_of}
 use Rattle.rules.specs.Table.{word_at, rule_at, WordsPut, RulePut}
 
 -- A floor of two left names, without a class.
 abbrev floor_of : ℕ → ℕ → Rule
 floor_of i j = record { kind = 1; count = 2; left = i ∷ j ∷ replicate 6 0; right = 0; class = lowest }
+
+pub kind_of_3_is_a_follow : Some RuleKind.Follow ≡ kind_of 3 → ⊥
+kind_of_3_is_a_follow e = let f : Some RuleKind.Follow ≡ None = e in let z : ◌≡◌ {A = ℕ} 0 1 = cc in omega arith
 
 pub rule_at_swaps_two_left_names : floor_of 1 0 ≡ rule_at (1 ∷ 2 ∷ 0 ∷ 1 ∷ replicate 9 0) 0 → ⊥
 unfolding rule_at word_at

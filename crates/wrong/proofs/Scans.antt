@@ -1,6 +1,6 @@
 -- Wrong answers of `scans`.
 -- Assumes nothing.
-use mathlib.Core.Path.{◌≡◌}
+use mathlib.Core.Path.{◌≡◌, ap}
 use mathlib.Core.Bool.{true, true≢false}
 use mathlib.Core.List.{[], ◌∷◌}
 use Prim.Native.Nat.{ℕ}
@@ -15,6 +15,9 @@ byte_at_is_zero_inside_the_text e = let z : ◌≡◌ {A = ℕ} 0 98 = e in omeg
 
 pub byte_at_is_the_last_byte_past_the_end : 98 ≡ byte_at (drop 2 (97 ∷ 98 ∷ [])) → ⊥
 byte_at_is_the_last_byte_past_the_end e = let z : ◌≡◌ {A = ℕ} 98 0 = e in omega arith
+
+pub rest_is_one_byte_short : drop {A = ℕ} 2 (97 ∷ 98 ∷ []) ≡ drop 1 (97 ∷ 98 ∷ []) → ⊥
+rest_is_one_byte_short e = let z : ◌≡◌ {A = ℕ} 0 98 = ap byte_at e in omega arith
 
 -- A capital A.
 pub is_name_byte_of_upper_case : true ≡ name_byte 65 → ⊥
