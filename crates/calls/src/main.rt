@@ -37,7 +37,7 @@ fn main(rt: HostRuntime) -> io::Result<()> {
 // Reads the rest of a call to its end, makes it, unless something in it has not the form, and prints its answer and the buffers after it. Answers whether it was
 // made.
 fn run<P: Print, R: Read>(out: &P, number: u64, calls: &mut Calls<R>) -> io::Result<bool> {
-    let numbers = calls.numbers()?;
+    // The buffers stand before all that is read: behind a read they would be cleared twice.
     let mut text = [0u8; MOST_TEXT];
     let mut items = [0u8; MOST_ITEMS];
     let mut output = [0u8; MOST_OUT];
@@ -46,6 +46,7 @@ fn run<P: Print, R: Read>(out: &P, number: u64, calls: &mut Calls<R>) -> io::Res
     let mut levels = [0u64; MOST_LABELS];
     let mut marks = [0u64; MOST_LABELS];
     let mut kept = [false; MOST_LABELS];
+    let numbers = calls.numbers()?;
     let mut buffers = Buffers {
         text: calls.lent(&mut text)?,
         items: calls.lent(&mut items)?,

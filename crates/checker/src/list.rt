@@ -28,8 +28,8 @@ pub fn check_list(rules: &[Rule], head: Head, labels: Labels) -> Result<Option<u
     let len = rules.len();
     let count = listed(len, head);
     let mut seen = nothing();
-    for (i, rule) in rules[..count].iter().enumerate() {
-        seen = next(seen, *rule, i, head, labels);
+    for i in 0..count {
+        seen = next(seen, rules[i], i, head, labels);
     }
     answer(seen, len, head, labels)
 }

@@ -63,6 +63,7 @@ impl Class {
     }
 
     // Whether this class has mark k. No class has a mark over 63.
+    #[tactic(auto, using(crate::proofs::Marks::none_over_63, crate::proofs::Marks::shift_tells))]
     pub fn has_mark(self, k: u64) -> bool
         ensures { Tells (HasMark self k) result }
     {

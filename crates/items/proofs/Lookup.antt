@@ -43,7 +43,7 @@ lent_byte : (name : List ℕ) (k : ℕ) → entry_byte name 0 k ≡ get_or name 
 unfolding entry_byte
 lent_byte name k = rw (zero-add k)
 
-lent_tells : {t : List ℕ} {i : ℕ} {name : List ℕ} {r : Bool} → Tells (SameEntry t i name 0) r → r ≡ same_name t i name
+pub lent_tells : {t : List ℕ} {i : ℕ} {name : List ℕ} {r : Bool} → Tells (SameEntry t i name 0) r → r ≡ same_name t i name
 lent_tells {t} {i} {name} s =
     tells_unique
     (record {

@@ -70,6 +70,8 @@ fn byte(items: &[u8], i: usize, k: usize) -> u8
 }
 
 // Whether entry i of one table and entry j of another have the same 16 bytes. A name that is lent by itself is the first entry of a table.
+// It is inlined because a look-up calls it for each item, and most names differ in their first bytes.
+#[inline(always)]
 fn same(a: &[u8], i: usize, b: &[u8], j: usize) -> bool
     ensures { Tells (SameEntry a.now i b.now j) result }
 {

@@ -36,19 +36,19 @@ longer_none Field.Open = refl
 longer_none Field.Bad = refl
 
 -- Each of the four bytes is not plain, and any other byte is.
-plain_comma : {b : ℕ} → b ≡ comma → false ≡ plain_byte b
+pub plain_comma : {b : ℕ} → b ≡ comma → false ≡ plain_byte b
 unfolding plain_byte
 plain_comma {b} e = rw (eq-eqb b comma e)
 
-plain_quote : {b : ℕ} → b ≡ quote → false ≡ plain_byte b
+pub plain_quote : {b : ℕ} → b ≡ quote → false ≡ plain_byte b
 unfolding plain_byte
 plain_quote {b} e = rw (ne_eqb b comma (λ z. omega arith), eq-eqb b quote e)
 
-plain_cr : {b : ℕ} → b ≡ cr → false ≡ plain_byte b
+pub plain_cr : {b : ℕ} → b ≡ cr → false ≡ plain_byte b
 unfolding plain_byte
 plain_cr {b} e = rw (ne_eqb b comma (λ z. omega arith), ne_eqb b quote (λ z. omega arith), eq-eqb b cr e)
 
-plain_lf : {b : ℕ} → b ≡ lf → false ≡ plain_byte b
+pub plain_lf : {b : ℕ} → b ≡ lf → false ≡ plain_byte b
 unfolding plain_byte
 plain_lf {b} e = rw (ne_eqb b comma (λ z. omega arith), ne_eqb b quote (λ z. omega arith), ne_eqb b cr (λ z. omega arith), eq-eqb b lf e)
 

@@ -14,7 +14,7 @@ use std::io;
 use std::io::Print;
 use stripping::Cut;
 use tokens::{ClassToken, Number};
-use wire::output::{buffer_out, words_out};
+use wire::output::{lines_out, words_out};
 
 // The values of a success. A rule has the most.
 #[derive(Clone, Copy, Debug, PartialEq, Eq)]
@@ -64,12 +64,12 @@ impl Values {
 pub fn answer_out<P: Print>(out: &P, answer: Answer) -> io::Result<()> {
     match answer {
         Ok(success) => {
-            words_out(out, &[0, success.which])?;
-            buffer_out(out, success.values.words())
+            lines_out(out, &[0, success.which])?;
+            words_out(out, success.values.words())
         }
         Err(refusal) => {
-            words_out(out, &[fault_number(refusal.fault), refusal.place])?;
-            buffer_out(out, Values::None.words())
+            lines_out(out, &[fault_number(refusal.fault), refusal.place])?;
+            words_out(out, Values::None.words())
         }
     }
 }

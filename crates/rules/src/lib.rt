@@ -3,11 +3,11 @@
 // Nothing here refuses. A reader past the table's end finds zero, and what has no room is not put.
 #![tactic(auto)]
 
-ghost use Rattle.std.specs.Prelude.{◌≡◌, ◌*◌, drop, get_or};
+ghost use Rattle.std.specs.Prelude.{◌≡◌, ◌<◌};
 ghost use Rattle.meaning.specs.Rules.{join_over};
 ghost use Rattle.meaning.specs.Classes.{classes};
 ghost use Rattle.rules.specs.Record.{kind_of, left_of};
-ghost use Rattle.rules.specs.Table.{rule_words, rule_at, WordsPut, RulePut};
+ghost use Rattle.rules.specs.Table.{rule_words, word_at, rule_at, WordsPut, RulePut};
 
 use classes::Class;
 use labels::Labelled;
@@ -66,40 +66,40 @@ impl Rule {
     }
 }
 
-// The words of a table from rule r on, none past its end.
-fn words_from(rules: &[u64], r: usize) -> &[u64]
-    ensures { result.now ≡ drop (r * rule_words) rules.now }
+// Word k of rule r of a table, and zero past the table's end. That r is below the table's length is asked first: the place is then known to be small, and a reader of a
+// rule costs just the words that it uses.
+#[tactic(auto, unfolding(crate::specs::Table::word_at))]
+fn word(rules: &[u64], r: usize, k: usize) -> u64
+    requires { k < rule_words }
+    ensures { result ≡ word_at rules.now r k }
 {
-    rules.get(r.saturating_mul(WORDS)..).unwrap_or(&[])
-}
-
-// Word k of these, and zero past their end.
-fn word(words: &[u64], k: usize) -> u64
-    ensures { result ≡ get_or words.now k 0 }
-{
-    words.get(k).copied().unwrap_or(0)
+    if rules.len() <= r {
+        return 0;
+    }
+    rules.get(r * WORDS + k).copied().unwrap_or(0)
 }
 
 // Rule r of a table. Its left names stand one by one: with `array::from_fn` the proof did not close that each call reads this table.
+// It is inlined so that words that a caller does not use are not read.
+#[inline(always)]
 pub fn rule_at(rules: &[u64], r: usize) -> Rule
     ensures { result ≡ rule_at rules.now r }
 {
-    let words = words_from(rules, r);
     Rule {
-        kind: word(words, 0),
-        count: word(words, 1),
+        kind: word(rules, r, 0),
+        count: word(rules, r, 1),
         left: [
-            word(words, 2),
-            word(words, 3),
-            word(words, 4),
-            word(words, 5),
-            word(words, 6),
-            word(words, 7),
-            word(words, 8),
-            word(words, 9),
+            word(rules, r, 2),
+            word(rules, r, 3),
+            word(rules, r, 4),
+            word(rules, r, 5),
+            word(rules, r, 6),
+            word(rules, r, 7),
+            word(rules, r, 8),
+            word(rules, r, 9),
         ],
-        right: word(words, 10),
-        class: Class::new(word(words, 11), word(words, 12)),
+        right: word(rules, r, 10),
+        class: Class::new(word(rules, r, 11), word(rules, r, 12)),
     }
 }
 

@@ -13,6 +13,10 @@ use Rattle.scans.specs.Bytes.{run_len}
 
 module _ (kind : ℕ → Bool) where
   -- A step of a run, and its end.
+  pub run_nil : run_len kind [] ≡ 0
+  unfolding run_len
+  run_nil = refl
+
   pub run_yes : (b : ℕ) (l : List ℕ) → kind b ≡ true → run_len kind (b ∷ l) ≡ suc (run_len kind l)
   unfolding run_len
   run_yes b l e = rw e

@@ -73,8 +73,15 @@ pub fn is_name_byte(b: u8) -> bool
 }
 
 // How many bytes of a kind stand at a place, one after the other.
+#[tactic(auto, using(crate::proofs::Counted::counted_none, crate::proofs::Counted::counted_more, crate::proofs::Counted::counted_stop, crate::proofs::Counted::counted_end))]
 pub fn run(kind: Kind, s: &[u8], at: usize) -> usize
     ensures { result ≡ run_len (kind_of kind) (drop at s.now) }
 {
-    rest(s, at).iter().take_while(|b| kind.has(**b)).count()
+    let text = rest(s, at);
+    for n in 0..text.len() {
+        if !kind.has(text[n]) {
+            return n;
+        }
+    }
+    text.len()
 }

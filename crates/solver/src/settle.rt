@@ -7,7 +7,6 @@ ghost use Rattle.solver.specs.InnerSteps.{Named, Usable, LowersItem, PushesRule,
 use super::Working;
 use super::floors::unheld;
 use classes::Class;
-use labels::Labelled;
 use rules::{CAP, FLOOR, Head, left_join, rule_at};
 
 // Lowers item i to the common part of its label and a bound. Answers whether that changed anything.
@@ -15,7 +14,7 @@ fn lower(labels: &mut Working, i: usize, bound: Class) -> bool
     requires { i < most_items }
     ensures { LowersItem i bound labels.old labels.new result }
 {
-    let old = labels.label(i as u64);
+    let old = Class::new(labels[i].level, labels[i].marks);
     if bound.covers(old) {
         return false;
     }
@@ -48,7 +47,8 @@ fn turn(back: bool, m: usize, k: usize) -> usize
     if back { m - 1 - k } else { k }
 }
 
-// Pushes every rule once. Answers whether that changed anything.
+// Pushes every rule once. Answers whether that changed anything. It is inlined so that each direction has a loop of its own.
+#[inline(always)]
 fn sweep(rules: &[u64], head: Head, back: bool, labels: &mut Working) -> bool
     requires { Usable head rules.now }
     ensures { Sweeps head rules.now labels.old labels.new result }
@@ -63,14 +63,11 @@ fn sweep(rules: &[u64], head: Head, back: bool, labels: &mut Working) -> bool
 // Lowers labels until every cap and every follow is met, and answers the parts in which some floor is then not met. Sweeps go
 // forward and back in turn, so that a chain of follows in either order needs no sweep for each link. The loop stays: how many sweeps
 // there are is known only once one changes nothing.
-#[tactic(auto, using(crate::proofs::Sweep::settling_none, crate::proofs::Sweep::settling_more, crate::proofs::Sweep::settling_less, crate::proofs::Sweep::settling_end))]
+#[tactic(auto, using(crate::proofs::Sweep::settling_none, crate::proofs::Sweep::settling_less))]
 pub(crate) fn settle(rules: &[u64], head: Head, labels: &mut Working) -> Class
     requires { Usable head rules.now }
     ensures { Settles head rules.now labels.old labels.new result }
 {
-    let mut back = false;
-    while sweep(rules, head, back, labels) {
-        back = !back;
-    }
+    while sweep(rules, head, false, labels) && sweep(rules, head, true, labels) {}
     unheld(rules, head, labels)
 }

@@ -64,10 +64,10 @@ module _ {l : List ℕ} {last : Bool} {kept : List Bool} {d d' : List ℕ} {cut 
   cuts : Cuts kept (taken last (length kept) l) cut
   cuts = cut_some kept (taken last (length kept) l) p.cut
 
-  front_within : cut.len ≤ length d'
+  pub front_within : cut.len ≤ length d'
   front_within = omega (arith, cuts.len, p.made.room, made_size p.made)
 
-  front_text : take cut.len d' ≡ made_of l last kept
+  pub front_text : take cut.len d' ≡ made_of l last kept
   front_text =
       ap (λ (k : ℕ). take k d') (cuts.len ∙ sym (zero-add (length (made_of l last kept))))
       ∙ ap (take (0 + length (made_of l last kept))) p.made.buffer ∙ take_over d 0 (made_of l last kept) p.made.room
@@ -81,7 +81,7 @@ first_bad (fs ∷ rows) faulty e =
     let z : ◌≡◌ {A = ℕ} 0 1 = cc in absurd (omega arith)
 
 -- Then nothing was put.
-front_refused : {l : List ℕ} {last : Bool} {kept : List Bool} {d d' : List ℕ} → FrontSays l last kept d None d' → d' ≡ d
+pub front_refused : {l : List ℕ} {last : Bool} {kept : List Bool} {d d' : List ℕ} → FrontSays l last kept d None d' → d' ≡ d
 front_refused {l} {last} {kept} {d} p =
     p.made.buffer
     ∙ ap (over d 0)

@@ -46,13 +46,18 @@ impl<'a, P: Print> Lines<'a, P> {
     }
 }
 
-// Words.
-pub fn words_out<P: Print>(out: &P, words: &[u64]) -> io::Result<()> {
+// Words, and nothing else.
+pub fn lines_out<P: Print>(out: &P, words: &[u64]) -> io::Result<()> {
     let mut lines = Lines::new(out);
     for word in words {
         lines.push(*word)?;
     }
     lines.flush()
+}
+
+// A buffer of words: its room, and each word.
+pub fn words_out<P: Print>(out: &P, words: &[u64]) -> io::Result<()> {
+    buffer_out(out, words)
 }
 
 // A buffer: its room, and each element.

@@ -1,9 +1,7 @@
 -- `check_list` meets its contract: before the first rule nothing is known, and each rule goes on from what is known before it.
 -- Assumes nothing.
-use mathlib.Core.Path.{◌∙◌}
 use native.Mathlib.Numerals.{add-one}
 use native.Mathlib.Omega.{arith}
-use lib.Seq.{get_or-take, length-take-le}
 use Rattle.std.proofs.lemmas.List.{get_or_default}
 use Rattle.checker.specs.List.{list_at}
 use Rattle.checker.proofs.list.check_list.Goals as goal
@@ -13,6 +11,5 @@ loop-i-init c = c.nothing-seen.ensures.start c.args.head (list_at c.args.rules.n
 
 pub loop-i-preserved : goal.loop-i-preserved
 loop-i-preserved c =
-    let below = length-take-le c.listed-count.result c.args.rules.now (omega (arith, c.listed-count.ensures.room)) in
     rw add-one (c.next-seen.ensures.on (list_at c.args.rules.now)
-    (get_or-take c.listed-count.result c.args.rules.now c.loop-i.i _ (omega arith) ∙ get_or_default c.args.rules.now c.loop-i.i _ _ (omega arith)) c.loop-i.invariant)
+    (get_or_default c.args.rules.now c.loop-i.i _ _ (omega (arith, c.listed-count.ensures.room))) c.loop-i.invariant)
