@@ -111,7 +111,7 @@ reading_none {text} {names} {words} s = record {
 
 module _ {text names words : List ℕ} {c : Counts} {at : ℕ} (w : Reading text names words c at) (r : Stepped) (names' words' : List ℕ)
     (e : turn_of r names' words' ≡ step (state_of c names words) (drop at text)) where
-  reading_stop : {a : ReadBook} → turn_of r names' words' ≡ stop (record { answer = a; names = names'; words = words' }) → Gives text a names' words'
+  pub reading_stop : {a : ReadBook} → turn_of r names' words' ≡ stop (record { answer = a; names = names'; words = words' }) → Gives text a names' words'
   reading_stop f = record {
     result = w.rest ∙ read_step (state_of c names words) (drop at text) ∙ ap (go_on (λ next k. read_all next (drop k (drop at text)))) (sym e) ∙ rw f;
   }

@@ -1,15 +1,14 @@
 -- What the loops over a field's bytes keep from turn to turn: the machine at the next place gives what is left of the field. It rests on the
 -- machine's steps.
 -- Assumes nothing.
-use mathlib.Core.Path.{◌≡◌, refl, sym, ap, subst, ◌∙◌}
+use mathlib.Core.Path.{◌≡◌, sym, ap, subst, ◌∙◌}
 use mathlib.Core.Bool.{true, false}
 use mathlib.Core.List.{List}
-use Prim.Native.Nat.{ℕ, zero, suc, ◌+◌, ◌-◌, ◌≤◌, ◌<◌}
-use native.Mathlib.Nat.{le_refl, add_assoc, add-zero}
+use Prim.Native.Nat.{ℕ, ◌+◌, ◌-◌, ◌≤◌, ◌<◌}
+use native.Mathlib.Nat.{le_refl, add_assoc}
 use native.Mathlib.Omega.{arith}
-use lib.ListN.{length, get_or, drop, length-drop}
-use lib.Seq.{get_or-drop}
-use Rattle.std.specs.Prelude.{Option, Some, None, MatchOption, unwrap_or}
+use lib.ListN.{length, get_or, drop}
+use Rattle.std.specs.Prelude.{Option, Some, None}
 use Rattle.scans.specs.Ascii.{quote}
 use Rattle.scans.specs.Bytes.{byte_at}
 use Rattle.scans.proofs.Places.{byte_in, byte_inside}
@@ -71,6 +70,10 @@ module _ {l : List ℕ} {at i : ℕ} (p : Past plain l at i) where
   pub past_plain_end : length l ≤ i → PlainRun l at (i - at)
   past_plain_end h = plain_run (plain_end l i h)
 
+  -- The same where the loop is at its end.
+  pub past_plain_all : length l ≤ i → PlainRun l at (length l - at)
+  past_plain_all h = subst (λ k. PlainRun l at (k - at)) (let s : i ≡ length l = omega (arith, p.within, h) in s) (past_plain_end h)
+
 -- Between quotes, from byte to byte.
 module _ {l : List ℕ} {at i : ℕ} (p : Past quoted l at i) where
   -- What is passed is the run, if a quote stands at i or the text ends there.
@@ -94,6 +97,10 @@ module _ {l : List ℕ} {at i : ℕ} (p : Past quoted l at i) where
   pub past_quoted_end : length l ≤ i → QuotedRun l at (i - at)
   past_quoted_end h = quoted_run (λ g. absurd (omega arith))
 
+  -- The same where the loop is at its end.
+  pub past_quoted_all : length l ≤ i → QuotedRun l at (length l - at)
+  past_quoted_all h = subst (λ k. QuotedRun l at (k - at)) (let s : i ≡ length l = omega (arith, p.within, h) in s) (past_quoted_end h)
+
   -- A run further; the text ends before a quote that closes the field.
   pub past_run : {r : ℕ} → QuotedRun l i r → Past quoted l at (i + r)
   past_run {r} q = past_on p r q.within q.scans
@@ -103,60 +110,6 @@ module _ {l : List ℕ} {at i : ℕ} (p : Past quoted l at i) where
     scans = p.rest ∙ ap (longer_by (i - at)) (quoted_end l i h);
     within = omega (arith, p.order, p.within);
   }
-
--- The first byte that is not plain, if there is one; and the first quote.
-abbrev pub PlainFirst : List ℕ → Option ℕ → Type 0
-PlainFirst x o =
-    MatchOption o ((k : ℕ) → k < length x → plain_byte (get_or x k 0) ≡ true)
-    (λ i. (i < length x) × (plain_byte (get_or x i 0) ≡ false) × ((k : ℕ) → k < i → plain_byte (get_or x k 0) ≡ true))
-
-abbrev pub QuotedFirst : List ℕ → Option ℕ → Type 0
-QuotedFirst x o =
-    MatchOption o ((k : ℕ) → k < length x → get_or x k 0 ≡ quote → ⊥)
-    (λ i. (i < length x) × (get_or x i 0 ≡ quote) × ((k : ℕ) → k < i → get_or x k 0 ≡ quote → ⊥))
-
--- The same of all bytes from a place on: the first one that is not plain, if there is one, ends the run; and so does the first quote.
-module _ (l : List ℕ) (at : ℕ) (start : at ≤ length l) where
-  rest_at : (k : ℕ) → get_or (drop at l) k 0 ≡ get_or l (at + k) 0
-  rest_at k = get_or-drop at l k 0
-
-  past_plain : (n : ℕ) → at + n ≤ length l → ((k : ℕ) → k < n → plain_byte (get_or (drop at l) k 0) ≡ true) → Past plain l at (at + n)
-  past_plain zero h e = rw (add-zero at) (past_none start)
-  past_plain (suc n) h e =
-      subst (Past plain l at) (let s : at + n + 1 ≡ at + suc n = omega arith in s)
-      (past_plain_on (past_plain n (omega arith) (λ k j. e k (omega arith))) (omega arith)
-      (ap plain_byte (sym (rest_at n)) ∙ e n (omega arith)))
-
-  past_quoted : (n : ℕ) → at + n ≤ length l → ((k : ℕ) → k < n → get_or (drop at l) k 0 ≡ quote → ⊥) → Past quoted l at (at + n)
-  past_quoted zero h e = rw (add-zero at) (past_none start)
-  past_quoted (suc n) h e =
-      subst (Past quoted l at) (let s : at + n + 1 ≡ at + suc n = omega arith in s)
-      (past_quoted_on (past_quoted n (omega arith) (λ k j. e k (omega arith))) (omega arith) (λ q. e n (omega arith) (rest_at n ∙ q)))
-
-  found_at : (r n : ℕ) → r ≡ at + n - at → r ≡ n
-  found_at r n e = omega (arith, e)
-
-  pub plain_found : (x : List ℕ) → x ≡ drop at l → (o : Option ℕ) → PlainFirst x o → PlainRun l at (unwrap_or o (length x))
-  plain_found x is = subst (λ (y : List ℕ). (o : Option ℕ) → PlainFirst y o → PlainRun l at (unwrap_or o (length y))) (sym is) by
-    where
-      by : (o : Option ℕ) → PlainFirst (drop at l) o → PlainRun l at (unwrap_or o (length (drop at l)))
-      by None h =
-          subst (PlainRun l at) (found_at (at + length (drop at l) - at) (length (drop at l)) refl)
-          (past_plain_end (past_plain (length (drop at l)) (omega (arith, length-drop at l)) h) (omega (arith, length-drop at l)))
-      by (Some i) h =
-          subst (PlainRun l at) (found_at (at + i - at) i refl)
-          (past_plain_stop (past_plain i (omega (arith, h.0, length-drop at l)) h.2) (omega (arith, h.0, length-drop at l)) (ap plain_byte (sym (rest_at i)) ∙ h.1))
-
-  pub quoted_found : (x : List ℕ) → x ≡ drop at l → (o : Option ℕ) → QuotedFirst x o → QuotedRun l at (unwrap_or o (length x))
-  quoted_found x is = subst (λ (y : List ℕ). (o : Option ℕ) → QuotedFirst y o → QuotedRun l at (unwrap_or o (length y))) (sym is) by
-    where
-      by : (o : Option ℕ) → QuotedFirst (drop at l) o → QuotedRun l at (unwrap_or o (length (drop at l)))
-      by None h =
-          subst (QuotedRun l at) (found_at (at + length (drop at l) - at) (length (drop at l)) refl)
-          (past_quoted_end (past_quoted (length (drop at l)) (omega (arith, length-drop at l)) h) (omega (arith, length-drop at l)))
-      by (Some i) h =
-          subst (QuotedRun l at) (found_at (at + i - at) i refl)
-          (past_quoted_stop (past_quoted i (omega (arith, h.0, length-drop at l)) h.2) (sym (rest_at i) ∙ h.1))
 
 -- Between quotes, from quote to quote: the quote behind a run is doubled; or it closes the field.
 module _ {l : List ℕ} {at i r : ℕ} (p : Past quoted l at i) (q : QuotedRun l i r) (h : i + r < length l)

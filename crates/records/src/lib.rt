@@ -198,14 +198,17 @@ fn behind_field(text: &[u8], at: usize, len: usize) -> Field
 }
 
 // How many bytes from a place on may stand in a field without quotes, one after the other.
+#[tactic(auto, using(crate::proofs::Past::past_none, crate::proofs::Past::past_plain_on, crate::proofs::Past::past_plain_stop, crate::proofs::Past::past_plain_all))]
 fn plain_run(text: &[u8], at: usize) -> usize
     requires { at ≤ length text.now }
     ensures { PlainRun text.now at result }
 {
-    let rest = &text[at..];
-    rest.iter()
-        .position(|b| !is_plain(*b))
-        .unwrap_or(rest.len())
+    for i in at..text.len() {
+        if !is_plain(text[i]) {
+            return i - at;
+        }
+    }
+    text.len() - at
 }
 
 // Whether a field without quotes may hold this byte.
@@ -236,10 +239,15 @@ fn closing(text: &[u8], at: usize) -> Option<usize>
 }
 
 // How many bytes from a place on are no quotes, one after the other.
+#[tactic(auto, using(crate::proofs::Past::past_none, crate::proofs::Past::past_quoted_on, crate::proofs::Past::past_quoted_stop, crate::proofs::Past::past_quoted_all))]
 fn quoted_run(text: &[u8], at: usize) -> usize
     requires { at ≤ length text.now }
     ensures { QuotedRun text.now at result }
 {
-    let rest = &text[at..];
-    rest.iter().position(|b| *b == QUOTE).unwrap_or(rest.len())
+    for i in at..text.len() {
+        if text[i] == QUOTE {
+            return i - at;
+        }
+    }
+    text.len() - at
 }

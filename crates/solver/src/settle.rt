@@ -14,6 +14,7 @@ fn lower(labels: &mut Working, i: usize, bound: Class) -> bool
     requires { i < most_items }
     ensures { LowersItem i bound labels.old labels.new result }
 {
+    // By its fields: of a class that is read whole it would not be known that its marks are a word.
     let old = Class::new(labels[i].level, labels[i].marks);
     if bound.covers(old) {
         return false;
